@@ -1,0 +1,5 @@
+pub mod Verdict
+pub mod Refusals
+pub mod Judged
+pub mod Report
+pub mod Examples

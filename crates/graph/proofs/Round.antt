@@ -1,0 +1,218 @@
+-- The cycle that is reported is a cycle: from T along edges, each to another transaction, and back to T. The walk never runs out.
+use Prim.Native.Nat.{ℕ, zero, suc, pred, _+_, _<_, _≤_}
+use native.Mathlib.Omega.{arith}
+use native.Mathlib.Nat.{add-zero, add-suc, suc-add}
+use mathlib.Core.Path.{_≡_, refl, sym, ap, ap₂, _∙_, subst}
+use mathlib.Core.Logic.{_≢_}
+use mathlib.Core.Bool.{Bool, true, false, not, _&&_, _||_}
+use mathlib.Core.List.{List, [], _∷_, _++_, map}
+use lib.ListN.{length, getD, take}
+use lib.Seq.{take-suc}
+use lib.Dec.{T, T-not, not-T, eqb, eqb→eq, eqb-refl}
+use Rattle.record.specs.declared.Event.{Event}
+use Rattle.trace.specs.Lists.{someOf, keep, firstOf, from, below}
+use Rattle.trace.specs.Paths.{Edge, hasEdge, Path, reaches, cyclic}
+use Rattle.graph.specs.Transactions.{Tally, none-yet, tallied, Labelled, labelledFrom, labelled, transactions}
+use Rattle.graph.specs.Edges.{makes, edges}
+use Rattle.graph.specs.Violation.{edgesUpTo, cyclicUpTo, shortest, transactionAt, closes, onward, walk, cycleOf}
+use Rattle.trace.proofs.Tests.{by, T-of, or-cases, and-left, and-right, and-both}
+use Rattle.trace.proofs.Lists.{Among, Before, among-cons, length-from, below-has, keep-has, count-all, some-has, Holds, some-at, among-length}
+use Rattle.trace.proofs.Reach.{Bounded, path-joined, sound, complete, edge-back}
+use Rattle.trace.proofs.Order.{ancestors, fewer}
+use Rattle.trace.proofs.Greedy.{Over}
+use Rattle.graph.proofs.Ends.{has-pair}
+use Rattle.graph.proofs.Serializable.{sane-none, labels-lt, bounded-edges}
+use Rattle.graph.proofs.Demand3.{among-take, labelled-take, first-true, first-false, first-some, blank, number-at}
+use Rattle.graph.proofs.Steps.{among-first, among-end, edges-snoc}
+
+-- from a along the list, and from its end to t
+abbrev pub On : List Edge → ℕ → ℕ → List ℕ → Type 0
+On g t a [] = T (hasEdge g a t)
+On g t a (b ∷ l) = T (hasEdge g a b) × (b ≢ t) × On g t b l
+
+-- a cycle through t, t first
+abbrev pub Round : List Edge → ℕ → List ℕ → Type 0
+Round g t [] = ⊥
+Round g t (a ∷ l) = (a ≡ t) × On g t a l
+
+over-snoc : {g : List Edge} {a b c : ℕ} → Path g a b → T (hasEdge g b c) → Over g a c
+over-snoc {c} Path.here e = record { mid = c; edge = e; path = Path.here }
+over-snoc (Path.there {b} h p) e = record { mid = b; edge = h; path = path-joined p (Path.there e Path.here) }
+
+over-path : {g : List Edge} {a b c : ℕ} → Over g a b → Path g b c → Over g a c
+over-path o p = record { mid = o .mid; edge = o .edge; path = path-joined (o .path) p }
+
+over-strict : {g : List Edge} {a b : ℕ} → a ≢ b → Path g a b → Over g a b
+over-strict d Path.here = absurd (d refl)
+over-strict d (Path.there {b} e p) = record { mid = b; edge = e; path = p }
+
+-- the first that passes, where one does
+first-passes : (p : ℕ → Bool) (d x : ℕ) (l : List ℕ) → Among x l → T (p x) → T (p (firstOf p d l)) × Among (firstOf p d l) l
+unfolding firstOf
+first-passes p d x (y ∷ l) m t = by (p y)
+    (λ e. subst (λ z. T (p z) × Among z (y ∷ l)) (sym (hit e)) (T-of e, Among.top))
+    (λ e. let r : T (p (firstOf p d l)) × Among (firstOf p d l) l = first-passes p d x l (among-cons m (λ q. absurd (subst T (ap p q ∙ e) t)) (λ n. n)) t in
+    subst (λ z. T (p z) × Among z (y ∷ l)) (sym (miss e)) (r .0, Among.deeper (r .1)))
+  where
+    hit : p y ≡ true → firstOf p d (y ∷ l) ≡ y
+    hit e = rw (e, firstOf)
+
+    miss : p y ≡ false → firstOf p d (y ∷ l) ≡ firstOf p d l
+    miss e = rw (e, firstOf)
+
+first-among : {A : Type 0} {x y : A} {l : List A} → Before x y l → Among x l
+first-among (Before.now m) = Among.top
+first-among (Before.under b) = Among.deeper (first-among b)
+
+second-among : {A : Type 0} {x y : A} {l : List A} → Before x y l → Among y l
+second-among (Before.now m) = Among.deeper m
+second-among (Before.under b) = Among.deeper (second-among b)
+
+module _ (n : ℕ) (xs : List Labelled) (x : Labelled) (small : (y : Labelled) → Among y (xs ++ (x ∷ [])) → y .transaction < n) (acyclic : cyclic (edges xs) ≡ false) where
+  abbrev t : ℕ
+  t = x .transaction
+
+  abbrev h : List Edge
+  h = edges (xs ++ (x ∷ []))
+
+  bounded : Bounded n (edges xs)
+  bounded = bounded-edges n xs (λ y m. small y (among-first xs (x ∷ []) m))
+
+  ends : (a b : ℕ) → T (hasEdge h a b) → (a < n) × (b < n) × (a ≢ b)
+  ends a b e = let p = has-pair (xs ++ (x ∷ [])) a b e in
+      (subst (λ k. k < n) (p .x-of) (small (p .x) (first-among (p .order))), subst (λ k. k < n) (p .y-of) (small (p .y) (second-among (p .order))), p .different)
+
+  -- an edge that does not go to t was there before
+  old-edge : (a b : ℕ) → T (hasEdge h a b) → b ≢ t → T (hasEdge (edges xs) a b)
+  old-edge a b e d = or-cases (hasEdge (edges xs) a b) (eqb t b && someOf (λ y. eqb (y .transaction) a && makes y x) xs) (subst T (edges-snoc xs x a b) e)
+      (λ u. u)
+      (λ u. absurd (d (sym (eqb→eq t b (and-left (eqb t b) (someOf (λ y. eqb (y .transaction) a && makes y x) xs) u)))))
+
+  through : {C : Type 0} {a b : ℕ} → Path h a b → (Path (edges xs) a b → C) → (Path h a t → Path h t b → C) → C
+  through Path.here f g = f Path.here
+  through (Path.there {a} {b} {c} e p) f g = by (eqb b t)
+      (λ q. let bt : b ≡ t = eqb→eq b t (T-of q) in g (Path.there e (subst (λ z. Path h b z) bt Path.here)) (subst (λ z. Path h z c) bt p))
+      (λ q. through p (λ r. f (Path.there (old-edge a b e (λ bt. subst T q (subst (λ z. T (eqb b z)) bt (eqb-refl b)))) r)) (λ r s. g (Path.there e r) s))
+
+  -- a cycle of the longer prefix goes through t
+  loop-at : T (cyclic h) → Over h t t
+  unfolding cyclic hasEdge
+  loop-at u =
+      let f : Holds (λ e. reaches h (e .goal) (e .origin)) h = some-at (λ e. reaches h (e .goal) (e .origin)) h u in
+      let a : ℕ = f .x .origin in
+      let b : ℕ = f .x .goal in
+      let e : T (hasEdge h a b) = some-has (λ c. eqb (c .origin) a && eqb (c .goal) b) (f .x) h (f .in-l) (and-both (eqb a a) (eqb b b) (eqb-refl a) (eqb-refl b)) in
+      let p : Path h b a = sound h b a (f .holds) in
+      by (eqb b t)
+      (λ q. let bt : b ≡ t = eqb→eq b t (T-of q) in over-snoc (subst (λ z. Path h z a) bt p) (subst (λ z. T (hasEdge h a z)) bt e))
+      (λ q. through p
+      (λ r. absurd (subst T acyclic (edge-back (edges xs) a b (old-edge a b e (λ bt. subst T q (subst (λ z. T (eqb b z)) bt (eqb-refl b)))) (complete (edges xs) r))))
+      (λ r s. over-path (over-snoc s e) r))
+
+  abbrev rank : ℕ → ℕ
+  rank a = ancestors n (edges xs) acyclic a
+
+  rank-le : (a : ℕ) → rank a ≤ n
+  rank-le a = omega (arith, count-all (λ c. reaches (edges xs) c a) (below n), length-from 0 n)
+
+  abbrev goes : ℕ → ℕ → Bool
+  goes a b = not (eqb b t) && (hasEdge h a b && reaches h b t)
+
+  closes-edge : (a : ℕ) → T (closes n h t a) → T (hasEdge h a t)
+  unfolding closes
+  closes-edge a u = and-right (not (eqb a t)) (hasEdge h a t) u
+
+  record Next (a : ℕ) : Type 0 where
+    edge : T (hasEdge h a (onward n h t a))
+    other : onward n h t a ≢ t
+    over : Over h (onward n h t a) t
+
+  -- from a transaction with a path to t, where the cycle does not close, it goes on
+  next : (a : ℕ) → Over h a t → closes n h t a ≡ false → Next a
+  unfolding closes onward
+  next a o c =
+      let m : ℕ = o .mid in
+      let mt : m ≢ t = λ q. by (eqb a t)
+      (λ e. ends a m (o .edge) .2 (eqb→eq a t (T-of e) ∙ sym q))
+      (λ e. subst T c (and-both (not (eqb a t)) (hasEdge h a t) (T-of (ap not e)) (subst (λ z. T (hasEdge h a z)) q (o .edge)))) in
+      let r = first-passes (goes a) 0 m (below n) (below-has n m (ends a m (o .edge) .1))
+      (and-both (not (eqb m t)) (hasEdge h a m && reaches h m t) (not-T (eqb m t) (λ e. mt (eqb→eq m t e))) (and-both (hasEdge h a m) (reaches h m t) (o .edge) (complete h (o .path)))) in
+      let b : ℕ = firstOf (goes a) 0 (below n) in
+      let bt : b ≢ t = λ q. T-not (eqb b t) (and-left (not (eqb b t)) (hasEdge h a b && reaches h b t) (r .0)) (subst (λ z. T (eqb b z)) q (eqb-refl b)) in
+      let two : T (hasEdge h a b && reaches h b t) = and-right (not (eqb b t)) (hasEdge h a b && reaches h b t) (r .0) in
+      record { edge = and-left (hasEdge h a b) (reaches h b t) two; other = bt; over = over-strict bt (sound h b t (and-right (hasEdge h a b) (reaches h b t) two)) }
+
+  round : (k a : ℕ) → Over h a t → n < k + rank a → (l : List ℕ) × (walk n h t k a ≡ a ∷ l) × On h t a l
+  unfolding walk
+  round zero a o k = absurd (omega (arith, rank-le a))
+  round (suc k) a o lt = by (closes n h t a)
+      (λ c. ([], stop c, closes-edge a (T-of c)))
+      (λ c. let x = next a o c in
+      let r = round k (onward n h t a) (x .over) (omega (arith, fewer n (edges xs) acyclic a (onward n h t a) (ends a (onward n h t a) (x .edge) .0) (ends a (onward n h t a) (x .edge) .1) (old-edge a (onward n h t a) (x .edge) (x .other)))) in
+      (onward n h t a ∷ r .0, go c ∙ ap (λ z. a ∷ z) (r .1), (x .edge, x .other, r .2)))
+    where
+      stop : closes n h t a ≡ true → walk n h t (suc k) a ≡ a ∷ []
+      stop c = rw (c, walk)
+
+      go : closes n h t a ≡ false → walk n h t (suc k) a ≡ a ∷ walk n h t k (onward n h t a)
+      go c = rw (c, walk)
+
+  -- the walk from t is a cycle through t
+  walk-right : T (cyclic h) → Round h t (walk n h t n t)
+  walk-right u =
+      let r = round n t (loop-at u) (omega (
+        arith,
+        among-length (keep (λ c. reaches (edges xs) c t) (below n))
+            (keep-has (λ c. reaches (edges xs) c t) t (below n) (below-has n t (small x (among-end xs x))) (complete (edges xs) Path.here)),
+      )) in
+      subst (Round h t) (sym (r .1)) (refl, r .2)
+
+-- ---- of a recording
+
+nothing : cyclic (edges (labelled [])) ≡ false
+unfolding labelledFrom edges cyclic someOf
+nothing = refl
+
+labelled-length : (s : Tally) (es : List Event) → length (labelledFrom s es) ≡ length es
+unfolding labelledFrom
+labelled-length s [] = refl
+labelled-length s (e ∷ es) = ap suc (labelled-length (tallied s e) es)
+
+record Earliest (p : ℕ → Bool) (s m k : ℕ) : Type 0 where
+  inside : k < s + m
+  none : (j : ℕ) → s ≤ j → j < k → p j ≡ false
+
+earliest : (p : ℕ → Bool) (s m k : ℕ) → firstOf p 0 (from s m) ≡ suc k → Earliest p s m (suc k)
+unfolding firstOf from
+earliest p s zero k e = absurd (omega (arith, e))
+earliest p s (suc m) k e = by (p s)
+    (λ q. let r : s ≡ suc k = sym (first-true p s (from (suc s) m) q) ∙ e in record { inside = omega arith; none = λ j a b. absurd (omega arith) })
+    (λ q. let r : Earliest p (suc s) m (suc k) = earliest p (suc s) m k (sym (first-false p s (from (suc s) m) q) ∙ e) in
+    record {
+      inside = omega (arith, r .inside);
+      none = λ j a b. by (eqb s j)
+          (λ z. subst (λ i. p i ≡ false) (eqb→eq s j (T-of z)) q)
+          (λ z. r .none j (above s j a (λ w. subst T z (subst (λ i. T (eqb s i)) w (eqb-refl s)))) b);
+    })
+  where
+    above : (s j : ℕ) → s ≤ j → s ≢ j → suc s ≤ j
+    above s j a d = omega arith
+
+-- The cycle that is reported is a cycle of edges of the prefix, through the transaction of its last record
+pub cycle-right : (es : List Event) (k : ℕ) → shortest es ≡ suc k → Round (edgesUpTo es (suc k)) (transactionAt es k) (cycleOf es (suc k))
+unfolding shortest cyclicUpTo edgesUpTo cycleOf transactionAt transactions
+cycle-right es k e =
+    let xs : List Labelled = labelled (take k es) in
+    let x : Labelled = getD (labelled es) k blank in
+    let q : Earliest (cyclicUpTo es) 1 (length es) (suc k) = earliest (cyclicUpTo es) 1 (length es) k e in
+    let is : labelled (take (suc k) es) ≡ xs ++ (x ∷ []) =
+    labelled-take none-yet (suc k) es ∙ take-suc (labelled es) k blank (omega (arith, q .inside, labelled-length none-yet es)) ∙ ap (λ l. l ++ (x ∷ [])) (sym (labelled-take none-yet k es)) in
+    let small : (y : Labelled) → Among y (xs ++ (x ∷ [])) → y .transaction < transactions es =
+    λ y m. labels-lt none-yet es sane-none y (among-take (suc k) y (labelled es) (subst (λ l. Among y l) (sym is ∙ labelled-take none-yet (suc k) es) m)) in
+    subst (λ l. Round (edges l) (transactionAt es k) (walk (transactions es) (edges l) (transactionAt es k) (transactions es) (transactionAt es k))) (sym is)
+    (subst (λ T₀. Round (edges (xs ++ (x ∷ []))) T₀ (walk (transactions es) (edges (xs ++ (x ∷ []))) T₀ (transactions es) T₀)) (sym (number-at (labelled es) k))
+    (walk-right (transactions es) xs x small (before k q) (subst (λ l. T (cyclic (edges l))) is (first-some (cyclicUpTo es) (from 1 (length es)) k e))))
+  where
+    before : (k : ℕ) → Earliest (cyclicUpTo es) 1 (length es) (suc k) → cyclic (edges (labelled (take k es))) ≡ false
+    before zero q = nothing
+    before (suc k) q = q .none (suc k) (omega arith) (omega arith)

@@ -1,0 +1,7 @@
+pub mod Conflict
+pub mod Transactions
+pub mod Swaps
+pub mod Edges
+pub mod Serial
+pub mod Violation
+pub mod Arranged

@@ -1,0 +1,218 @@
+-- Laws of the words for lists.
+use Prim.Native.Nat.{ℕ, zero, suc, _+_, _<_, _≤_}
+use native.Mathlib.Omega.{arith}
+use native.Mathlib.Nat.{add-zero, zero-add, add-suc, suc-add, le-of-suc-le-suc, not-suc-le-zero}
+use mathlib.Core.Path.{_≡_, refl, sym, ap, _∙_, subst}
+use mathlib.Core.Logic.{_≢_}
+use mathlib.Core.Bool.{Bool, true, false, not, cond, _&&_, _||_}
+use mathlib.Core.List.{List, [], _∷_, _++_, cons≢nil}
+use lib.ListN.{length}
+use lib.Dec.{T, T-not, not-T, eqb, ltb, eqb→eq, eqb-refl}
+use Rattle.trace.specs.Lists.{someOf, allOf, keep, from, below}
+use Rattle.trace.proofs.Tests.{by, T-of, T-is, or-cases, or-left, or-right}
+
+-- b is one of a list; an a stands before a b
+module _ {A : Type 0} where
+  pub data Among (b : A) : List A → Type 0 where
+    top : {l : List A} → Among b (b ∷ l)
+    deeper : {x : A} {l : List A} → Among b l → Among b (x ∷ l)
+
+  pub data Before (a b : A) : List A → Type 0 where
+    now : {l : List A} → Among b l → Before a b (a ∷ l)
+    under : {x : A} {l : List A} → Before a b l → Before a b (x ∷ l)
+
+module _ {A : Type 0} (p : A → Bool) where
+  pub keep-true : (x : A) (l : List A) → p x ≡ true → keep p (x ∷ l) ≡ x ∷ keep p l
+  unfolding keep
+  keep-true x l e = rw (e, keep)
+
+  pub keep-false : (x : A) (l : List A) → p x ≡ false → keep p (x ∷ l) ≡ keep p l
+  unfolding keep
+  keep-false x l e = rw (e, keep)
+
+pub some-cons : {A : Type 0} (p : A → Bool) (x : A) (l : List A) → someOf p (x ∷ l) ≡ (p x || someOf p l)
+unfolding someOf
+some-cons p x l = go (p x)
+  where
+    go : (b : Bool) → (elim b as (λ c. Bool) [ true ↦ true | false ↦ someOf p l ]) ≡ (b || someOf p l)
+    go true = refl
+    go false = refl
+
+pub among-cons {ℓ} : {A : Type 0} {C : Type ℓ} {x y : A} {l : List A} → Among x (y ∷ l) → (x ≡ y → C) → (Among x l → C) → C
+among-cons Among.top f g = f refl
+among-cons (Among.deeper m) f g = g m
+
+pub length-from : (s n : ℕ) → length (from s n) ≡ n
+unfolding from
+length-from s zero = refl
+length-from s (suc n) = ap suc (length-from (suc s) n)
+
+module _ {A : Type 0} where
+  pub keep-among : (p : A → Bool) (x : A) (l : List A) → Among x (keep p l) → Among x l × T (p x)
+  unfolding keep
+  keep-among p x (y ∷ l) m = by (p y)
+      (λ e. cases l e (subst (λ k. Among x k) (keep-true p y l e) m) (keep-among p x l))
+      (λ e. let r : Among x l × T (p x) = keep-among p x l (subst (λ k. Among x k) (keep-false p y l e) m) in (Among.deeper (r .0), r .1))
+    where
+      cases : {y : A} (l : List A) → p y ≡ true → Among x (y ∷ keep p l) → (Among x (keep p l) → Among x l × T (p x)) → Among x (y ∷ l) × T (p x)
+      cases l e Among.top f = (Among.top, T-of e)
+      cases l e (Among.deeper n) f = (Among.deeper (f n .0), f n .1)
+
+from-has : (s n i : ℕ) → i < n → Among (s + i) (from s n)
+unfolding from
+from-has s zero i h = absurd (not-suc-le-zero h)
+from-has s (suc n) zero h = subst (λ k. Among k (s ∷ from (suc s) n)) (sym (add-zero s)) Among.top
+from-has s (suc n) (suc i) h = Among.deeper (subst (λ k. Among k (from (suc s) n)) (suc-add s i ∙ sym (add-suc s i)) (from-has (suc s) n i (le-of-suc-le-suc h)))
+
+pub below-has : (n a : ℕ) → a < n → Among a (below n)
+below-has n a h = subst (λ k. Among k (below n)) (zero-add a) (from-has 0 n a h)
+
+from-bound : (s n a : ℕ) → Among a (from s n) → a < s + n
+unfolding from
+from-bound s (suc n) a Among.top = omega arith
+from-bound s (suc n) a (Among.deeper m) = omega (arith, from-bound (suc s) n a m)
+
+pub below-bound : (n a : ℕ) → Among a (below n) → a < n
+below-bound n a m = subst (λ k. a < k) (zero-add n) (from-bound 0 n a m)
+
+module _ {A : Type 0} where
+  pub keep-has : (p : A → Bool) (x : A) (l : List A) → Among x l → T (p x) → Among x (keep p l)
+  keep-has p x (y ∷ l) Among.top t = subst (λ k. Among x k) (sym (keep-true p x l (T-is (p x) t))) Among.top
+  keep-has p x (y ∷ l) (Among.deeper m) t = by (p y)
+      (λ e. subst (λ k. Among x k) (sym (keep-true p y l e)) (Among.deeper (keep-has p x l m t)))
+      (λ e. subst (λ k. Among x k) (sym (keep-false p y l e)) (keep-has p x l m t))
+
+  pub keep-none : (p : A → Bool) (l : List A) → ((x : A) → Among x l → p x ≡ false) → keep p l ≡ []
+  unfolding keep
+  keep-none p [] h = refl
+  keep-none p (x ∷ l) h = keep-false p x l (h x Among.top) ∙ keep-none p l (λ y m. h y (Among.deeper m))
+
+  pub keep-same : (p q : A → Bool) (l : List A) → ((x : A) → Among x l → p x ≡ q x) → keep p l ≡ keep q l
+  unfolding keep
+  keep-same p q [] h = refl
+  keep-same p q (x ∷ l) h = by (p x)
+      (λ e. keep-true p x l e ∙ ap (λ r. x ∷ r) (keep-same p q l (λ y m. h y (Among.deeper m))) ∙ sym (keep-true q x l (sym (h x Among.top) ∙ e)))
+      (λ e. keep-false p x l e ∙ keep-same p q l (λ y m. h y (Among.deeper m)) ∙ sym (keep-false q x l (sym (h x Among.top) ∙ e)))
+
+  pub keep-keep : (p q : A → Bool) (l : List A) → keep p (keep q l) ≡ keep (λ x. q x && p x) l
+  unfolding keep
+  keep-keep p q [] = refl
+  keep-keep p q (x ∷ l) = by (q x)
+      (λ e. ap (keep p) (keep-true q x l e) ∙ by (p x)
+      (λ f. keep-true p x (keep q l) f ∙ ap (λ r. x ∷ r) (keep-keep p q l) ∙ sym (keep-true (λ y. q y && p y) x l (ap (λ c. c && p x) e ∙ f)))
+      (λ f. keep-false p x (keep q l) f ∙ keep-keep p q l ∙ sym (keep-false (λ y. q y && p y) x l (ap (λ c. c && p x) e ∙ f))))
+      (λ e. ap (keep p) (keep-false q x l e) ∙ keep-keep p q l ∙ sym (keep-false (λ y. q y && p y) x l (ap (λ c. c && p x) e)))
+
+  pub keep-all : (p : A → Bool) (l : List A) → ((x : A) → Among x l → p x ≡ true) → keep p l ≡ l
+  unfolding keep
+  keep-all p [] h = refl
+  keep-all p (x ∷ l) h = keep-true p x l (h x Among.top) ∙ ap (λ r. x ∷ r) (keep-all p l (λ y m. h y (Among.deeper m)))
+
+  pub count-all : (p : A → Bool) (l : List A) → length (keep p l) ≤ length l
+  unfolding keep
+  count-all p [] = omega arith
+  count-all p (x ∷ l) = by (p x)
+      (λ e. omega (arith, ap length (keep-true p x l e), count-all p l))
+      (λ e. omega (arith, ap length (keep-false p x l e), count-all p l))
+
+  pub keep-before : (p : A → Bool) (x y : A) (l : List A) → Before x y (keep p l) → Before x y l × T (p x) × T (p y)
+  unfolding keep
+  keep-before p x y (z ∷ l) b = by (p z)
+      (λ e. cases l e (subst (λ k. Before x y k) (keep-true p z l e) b) (keep-before p x y l))
+      (λ e. let r : Before x y l × T (p x) × T (p y) = keep-before p x y l (subst (λ k. Before x y k) (keep-false p z l e) b) in (Before.under (r .0), r .1, r .2))
+    where
+      cases : {z : A} (l : List A) → p z ≡ true → Before x y (z ∷ keep p l) → (Before x y (keep p l) → Before x y l × T (p x) × T (p y)) → Before x y (z ∷ l) × T (p x) × T (p y)
+      cases l e (Before.now m) f = (Before.now (keep-among p y l m .0), T-of e, keep-among p y l m .1)
+      cases l e (Before.under c) f = (Before.under (f c .0), f c .1, f c .2)
+
+  -- fewer pass the test p than the test q, where p is the stricter and some a passes only q
+  pub count-le : (p q : A → Bool) (l : List A) → ((x : A) → Among x l → T (p x) → T (q x)) → length (keep p l) ≤ length (keep q l)
+  unfolding keep
+  count-le p q [] h = omega arith
+  count-le p q (x ∷ l) h =
+      let rest : length (keep p l) ≤ length (keep q l) = count-le p q l (λ y m. h y (Among.deeper m)) in
+      by (q x)
+      (λ f. let b : length (keep q (x ∷ l)) ≡ suc (length (keep q l)) = ap length (keep-true q x l f) in
+      by (p x)
+      (λ e. let a : length (keep p (x ∷ l)) ≡ suc (length (keep p l)) = ap length (keep-true p x l e) in omega arith)
+      (λ e. let a : length (keep p (x ∷ l)) ≡ length (keep p l) = ap length (keep-false p x l e) in omega arith))
+      (λ f. by (p x)
+      (λ e. absurd (subst T f (h x Among.top (T-of e))))
+      (λ e. let a : length (keep p (x ∷ l)) ≡ length (keep p l) = ap length (keep-false p x l e) in
+      let b : length (keep q (x ∷ l)) ≡ length (keep q l) = ap length (keep-false q x l f) in omega arith))
+
+  pub count-lt : (p q : A → Bool) (a : A) (l : List A) → ((x : A) → Among x l → T (p x) → T (q x)) → Among a l → T (q a) → p a ≡ false → length (keep p l) < length (keep q l)
+  count-lt p q a (x ∷ l) h Among.top t e =
+      let r : length (keep p l) ≤ length (keep q l) = count-le p q l (λ y m. h y (Among.deeper m)) in
+      let u : length (keep p (x ∷ l)) ≡ length (keep p l) = ap length (keep-false p x l e) in
+      let v : length (keep q (x ∷ l)) ≡ suc (length (keep q l)) = ap length (keep-true q x l (T-is (q x) t)) in omega arith
+  count-lt p q a (x ∷ l) h (Among.deeper m) t e =
+      let rest : length (keep p l) < length (keep q l) = count-lt p q a l (λ y n. h y (Among.deeper n)) m t e in
+      by (q x)
+      (λ f. let b : length (keep q (x ∷ l)) ≡ suc (length (keep q l)) = ap length (keep-true q x l f) in
+      by (p x)
+      (λ g. let c : length (keep p (x ∷ l)) ≡ suc (length (keep p l)) = ap length (keep-true p x l g) in omega arith)
+      (λ g. let c : length (keep p (x ∷ l)) ≡ length (keep p l) = ap length (keep-false p x l g) in omega arith))
+      (λ f. by (p x)
+      (λ g. absurd (subst T f (h x Among.top (T-of g))))
+      (λ g. let c : length (keep p (x ∷ l)) ≡ length (keep p l) = ap length (keep-false p x l g) in
+      let b : length (keep q (x ∷ l)) ≡ length (keep q l) = ap length (keep-false q x l f) in omega arith))
+
+pub some-mono : {A : Type 0} (p q : A → Bool) (l : List A) → ((x : A) → Among x l → T (p x) → T (q x)) → T (someOf p l) → T (someOf q l)
+unfolding someOf
+some-mono p q [] h t = t
+some-mono p q (x ∷ l) h t = subst T (sym (some-cons q x l)) (or-cases (p x) (someOf p l) (subst T (some-cons p x l) t)
+    (λ u. or-left (q x) (someOf q l) (h x Among.top u))
+    (λ u. or-right (q x) (someOf q l) (some-mono p q l (λ y m. h y (Among.deeper m)) u)))
+
+pub some-has : {A : Type 0} (p : A → Bool) (x : A) (l : List A) → Among x l → T (p x) → T (someOf p l)
+some-has p x (y ∷ l) Among.top t = subst T (sym (some-cons p x l)) (or-left (p x) (someOf p l) t)
+some-has p x (y ∷ l) (Among.deeper m) t = subst T (sym (some-cons p y l)) (or-right (p y) (someOf p l) (some-has p x l m t))
+
+-- a test that holds of some holds at one
+pub record Holds {A : Type 0} (p : A → Bool) (l : List A) : Type 0 where
+  pub x : A
+  pub in-l : Among x l
+  pub holds : T (p x)
+
+pub some-at : {A : Type 0} (p : A → Bool) (l : List A) → T (someOf p l) → Holds p l
+unfolding someOf
+some-at p [] t = absurd t
+some-at p (x ∷ l) t = or-cases (p x) (someOf p l) (subst T (some-cons p x l) t)
+    (λ u. record { x = x; in-l = Among.top; holds = u })
+    (λ u. let r : Holds p l = some-at p l u in record { x = r .x; in-l = Among.deeper (r .in-l); holds = r .holds })
+
+-- a test that does not hold of all fails at one
+pub record Fails {A : Type 0} (p : A → Bool) (l : List A) : Type 0 where
+  pub x : A
+  pub in-l : Among x l
+  pub fails : p x ≡ false
+
+pub all-fails : {A : Type 0} (p : A → Bool) (l : List A) → allOf p l ≡ false → Fails p l
+unfolding allOf
+all-fails p [] e = absurd (subst T e tt)
+all-fails p (x ∷ l) e = by (p x)
+    (λ f. let r : Fails p l = all-fails p l (sym (all-true p x l f) ∙ e) in record { x = r .x; in-l = Among.deeper (r .in-l); fails = r .fails })
+    (λ f. record { x = x; in-l = Among.top; fails = f })
+  where
+    all-true : {A : Type 0} (p : A → Bool) (x : A) (l : List A) → p x ≡ true → allOf p (x ∷ l) ≡ allOf p l
+    all-true p x l f = rw (f, allOf)
+
+pub all-has : {A : Type 0} (p : A → Bool) (x : A) (l : List A) → T (allOf p l) → Among x l → T (p x)
+unfolding allOf
+all-has {A} p x (y ∷ l) t m = by (p y)
+    (λ f. go l f m (subst T (step-true p y l f) t) (all-has p x l))
+    (λ f. absurd (subst T (step-false p y l f) t))
+  where
+    step-true : {A : Type 0} (p : A → Bool) (y : A) (l : List A) → p y ≡ true → allOf p (y ∷ l) ≡ allOf p l
+    step-true p y l f = rw (f, allOf)
+
+    step-false : {A : Type 0} (p : A → Bool) (y : A) (l : List A) → p y ≡ false → allOf p (y ∷ l) ≡ false
+    step-false p y l f = rw (f, allOf)
+
+    go : {y : A} (l : List A) → p y ≡ true → Among x (y ∷ l) → T (allOf p l) → (T (allOf p l) → Among x l → T (p x)) → T (p x)
+    go l f Among.top u k = T-of f
+    go l f (Among.deeper m) u k = k u m
+
+pub among-length : {A : Type 0} {x : A} (l : List A) → Among x l → 0 < length l
+among-length (y ∷ l) m = omega arith
