@@ -182,7 +182,7 @@ before-take : {A : Type 0} (k : ℕ) (x y : A) (l : List A) → Before x y (take
 before-take (suc k) x y (z ∷ l) (Before.now m) = Before.now (among-take k y l m)
 before-take (suc k) x y (z ∷ l) (Before.under b) = Before.under (before-take k x y l b)
 
-edge-take : (k : ℕ) (l : List Labelled) {a b : ℕ} → Edge clash tx (take k l) a b → Edge clash tx l a b
+pub edge-take : (k : ℕ) (l : List Labelled) {a b : ℕ} → Edge clash tx (take k l) a b → Edge clash tx l a b
 edge-take k l e = record { x = e .x; y = e .y; x-of = e .x-of; y-of = e .y-of; order = before-take k (e .x) (e .y) l (e .order); clash = e .clash; different = e .different }
 
 way-take : (k : ℕ) (l : List Labelled) {a b : ℕ} → Way clash tx (take k l) a b → Way clash tx l a b
@@ -219,7 +219,7 @@ first-some p (x ∷ l) k e = by (p x)
     (λ t. subst (λ j. T (p j)) (sym (first-true p x l t) ∙ e) (T-of t))
     (λ t. first-some p l k (sym (first-false p x l t) ∙ e))
 
-first-none : (p : ℕ → Bool) (s n : ℕ) → 0 < s → firstOf p 0 (from s n) ≡ 0 → (j : ℕ) → j < n → p (s + j) ≡ false
+pub first-none : (p : ℕ → Bool) (s n : ℕ) → 0 < s → firstOf p 0 (from s n) ≡ 0 → (j : ℕ) → j < n → p (s + j) ≡ false
 unfolding firstOf from
 first-none p s zero h e j lt = absurd (omega arith)
 first-none p s (suc n) h e zero lt = by (p s)

@@ -6,3 +6,4 @@ pub mod Labels
 pub mod Demand3
 pub mod Steps
 pub mod Round
+pub mod Meaning

@@ -178,11 +178,11 @@ unfolding labelledFrom
 labelled-length s [] = refl
 labelled-length s (e ∷ es) = ap suc (labelled-length (tallied s e) es)
 
-record Earliest (p : ℕ → Bool) (s m k : ℕ) : Type 0 where
-  inside : k < s + m
-  none : (j : ℕ) → s ≤ j → j < k → p j ≡ false
+pub record Earliest (p : ℕ → Bool) (s m k : ℕ) : Type 0 where
+  pub inside : k < s + m
+  pub none : (j : ℕ) → s ≤ j → j < k → p j ≡ false
 
-earliest : (p : ℕ → Bool) (s m k : ℕ) → firstOf p 0 (from s m) ≡ suc k → Earliest p s m (suc k)
+pub earliest : (p : ℕ → Bool) (s m k : ℕ) → firstOf p 0 (from s m) ≡ suc k → Earliest p s m (suc k)
 unfolding firstOf from
 earliest p s zero k e = absurd (omega (arith, e))
 earliest p s (suc m) k e = by (p s)

@@ -5,9 +5,9 @@ use mathlib.Core.Bool.{Bool, true, false, not, _&&_, _||_}
 use mathlib.Core.List.{List, [], _∷_}
 use lib.Dec.{T, eqb, eqb→eq, eqb-refl}
 use Rattle.trace.specs.Lists.{someOf}
-use Rattle.trace.specs.Paths.{Edge, hasEdge, Path, reaches, cyclic}
+use Rattle.trace.specs.Paths.{Edge, hasEdge, Path, Cycle, reaches, cyclic}
 use Rattle.trace.proofs.Tests.{or-cases, or-left, or-right, and-left, and-right, and-both}
-use Rattle.trace.proofs.Lists.{some-cons, some-mono}
+use Rattle.trace.proofs.Lists.{some-cons, some-mono, some-has, Holds, some-at}
 use Rattle.trace.specs.Paths.Path.{here, there}
 
 -- both ends of each edge are below n
@@ -72,3 +72,20 @@ unfolding hasEdge cyclic
 edge-back g a b h r = some-mono (λ e. eqb (e .origin) a && eqb (e .goal) b) (λ e. reaches g (e .goal) (e .origin)) g
     (λ e m t. subst (λ c. T (reaches g c (e .origin))) (sym (eqb→eq (e .goal) b (and-right (eqb (e .origin) a) (eqb (e .goal) b) t)))
     (subst (λ c. T (reaches g b c)) (sym (eqb→eq (e .origin) a (and-left (eqb (e .origin) a) (eqb (e .goal) b) t))) r)) h
+
+-- `cyclic` is right: it passes exactly where there is a cycle, an edge with a path back
+pub cycle-means : (g : List Edge) → T (cyclic g) → Cycle g
+unfolding hasEdge cyclic
+cycle-means g t =
+    let f : Holds (λ e. reaches g (e .goal) (e .origin)) g = some-at (λ e. reaches g (e .goal) (e .origin)) g t in
+    let e : Edge = f .x in
+    record {
+      at = e .origin;
+      to = e .goal;
+      edge = some-has (λ d. eqb (d .origin) (e .origin) && eqb (d .goal) (e .goal)) e g (f .in-l)
+          (and-both (eqb (e .origin) (e .origin)) (eqb (e .goal) (e .goal)) (eqb-refl (e .origin)) (eqb-refl (e .goal)));
+      back = sound g (e .goal) (e .origin) (f .holds);
+    }
+
+pub cycle-made : (g : List Edge) → Cycle g → T (cyclic g)
+cycle-made g c = edge-back g (c .at) (c .to) (c .edge) (complete g (c .back))
