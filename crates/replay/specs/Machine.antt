@@ -42,6 +42,10 @@ fresh = record {
   waits = replicate 16 waitless;
 }
 
+-- the state of four lists
+abbrev pub stateOf : List ℕ → List ℕ → List ℕ → List ℕ → State
+stateOf values holders lives waits = record { values = values; holders = holders; lives = lives; waits = waits }
+
 module _ (s : State) where
   abbrev pub valueOf : ℕ → ℕ
   valueOf x = getD (s .values) x 0
