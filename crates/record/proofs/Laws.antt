@@ -265,13 +265,13 @@ encode-decoded bs e small h =
     at f q (suc (suc (suc (suc (suc (suc (suc (suc i)))))))) l = absurd (omega arith)
 
 -- what every operation has
-record Shape (o : Op) : Type 0 where
-  low : 1 ≤ kind o
-  high : kind o ≤ 10
-  valued : 2 < kind o → value o ≡ 0
-  made : operation (kind o) (target o) (value o) ≡ o
+pub record Shape (o : Op) : Type 0 where
+  pub low : 1 ≤ kind o
+  pub high : kind o ≤ 10
+  pub valued : 2 < kind o → value o ≡ 0
+  pub made : operation (kind o) (target o) (value o) ≡ o
 
-shape : (o : Op) → Shape o
+pub shape : (o : Op) → Shape o
 unfolding operation
 shape (Read x v) = record { low = omega arith; high = omega arith; valued = λ h. absurd (omega arith); made = refl }
 shape (Write x v) = record { low = omega arith; high = omega arith; valued = λ h. absurd (omega arith); made = refl }

@@ -11,51 +11,11 @@ use lib.Dec.{eqb}
 use borrow.Author.Tests.{eq-eqb, ne-eqb}
 use Rattle.record.specs.declared.Event.{Event}
 use Rattle.record.specs.declared.Op.{Op}
-use Rattle.record.specs.declared.Op.the-variants.{Read, Write, Acquire, Release, Prewait, Postwait, Notify, Fork, Join, Yield}
 use Rattle.record.specs.Faults.{check, firstFault}
+use Rattle.record.proofs.Laws.{shape}
 use Rattle.record.specs.Record.{kind, target, value, operation}
 use Rattle.replay.specs.declared.State.{State}
 use Rattle.replay.specs.Machine.{free, heldBy, unforked, forked, joined, waitless, waitsOn, valueOf, holderOf, lifeOf, waitOf, withValue, withHolder, withLife, withWait, waitBefore, finds, checks, faultOf, act, stepped}
-
--- an operation is the one of its kind, its target and its value
-pub as-kind : (o : Op) → operation (kind o) (target o) (value o) ≡ o
-unfolding operation
-as-kind (Read x v) = refl
-as-kind (Write x v) = refl
-as-kind (Acquire m) = refl
-as-kind (Release m) = refl
-as-kind (Prewait m) = refl
-as-kind (Postwait m) = refl
-as-kind (Notify m) = refl
-as-kind (Fork u) = refl
-as-kind (Join u) = refl
-as-kind Yield = refl
-
--- kinds are 1 to 10
-pub kind-range : (o : Op) → (1 ≤ kind o) × (kind o ≤ 10)
-kind-range (Read x v) = (omega arith, omega arith)
-kind-range (Write x v) = (omega arith, omega arith)
-kind-range (Acquire m) = (omega arith, omega arith)
-kind-range (Release m) = (omega arith, omega arith)
-kind-range (Prewait m) = (omega arith, omega arith)
-kind-range (Postwait m) = (omega arith, omega arith)
-kind-range (Notify m) = (omega arith, omega arith)
-kind-range (Fork u) = (omega arith, omega arith)
-kind-range (Join u) = (omega arith, omega arith)
-kind-range Yield = (omega arith, omega arith)
-
--- only reads and writes have a value
-pub no-value : (o : Op) → 3 ≤ kind o → value o ≡ 0
-no-value (Read x v) h = absurd (omega arith)
-no-value (Write x v) h = absurd (omega arith)
-no-value (Acquire m) h = refl
-no-value (Release m) h = refl
-no-value (Prewait m) h = refl
-no-value (Postwait m) h = refl
-no-value (Notify m) h = refl
-no-value (Fork u) h = refl
-no-value (Join u) h = refl
-no-value Yield h = refl
 
 -- an entry that isn't 0 is within its list
 within : (l : List ℕ) (i : ℕ) → getD l i 0 ≢ 0 → i < length l
@@ -191,5 +151,5 @@ module _ (s : State) (e : Event) where
   pub rights : (k x v r : ℕ) (s′ : State) → k ≡ kind (e .op) → x ≡ target (e .op) → v ≡ value (e .op)
       → lifeOf s t ≡ forked → waitOf s t ≡ waitBefore (e .op) → Done s t (operation k x v) r s′ → Steps r s′
   rights k x v r s′ p q w life wait done =
-      let same : operation k x v ≡ e .op = ap (λ n. operation n x v) p ∙ ap (λ n. operation (kind (e .op)) n v) q ∙ ap (λ n. operation (kind (e .op)) (target (e .op)) n) w ∙ as-kind (e .op) in
+      let same : operation k x v ≡ e .op = ap (λ n. operation n x v) p ∙ ap (λ n. operation (kind (e .op)) n v) q ∙ ap (λ n. operation (kind (e .op)) (target (e .op)) n) w ∙ shape (e .op) .made in
       done-steps r s′ (done .0 ∙ ap (λ o. firstFault (finds s t o)) same ∙ sym (faults life wait)) (done .1 ∙ ap (λ o. cond (eqb r 0) (act s t o) s) same)
