@@ -7,8 +7,10 @@ use lib.ListN.{length, getD, take, length-append, List·getD-append}
 use lib.Seq.{take-append-le, take-all, getD-at}
 use Rattle.record.specs.declared.Event.{Event}
 use Rattle.graph.specs.Transactions.{Labelled}
-use Rattle.graph.specs.Engine.{recordAt, held}
+use Rattle.graph.specs.Engine.{recordAt, held, Few}
 use Rattle.trace.proofs.Tests.{by-same}
+use Rattle.trace.proofs.Lists.{Among}
+use Rattle.graph.proofs.Steps.{among-none, among-split}
 
 -- one record more
 pub held-more : (n : ℕ) (all : List Event) (labels : List ℕ) → held (suc n) all labels ≡ held n all labels ++ (recordAt all labels n ∷ [])
@@ -47,3 +49,11 @@ pub held-cons : (n : ℕ) (e : Event) (all : List Event) (a : ℕ) (labels : Lis
 unfolding held
 held-cons zero e all a labels = refl
 held-cons (suc n) e all a labels = ap (λ l. l ++ (recordAt all labels n ∷ [])) (held-cons n e all a labels)
+
+-- each is of one of 512 transactions
+pub held-few : (n : ℕ) (all : List Event) (labels : List ℕ) → Few n labels → (y : Labelled) → Among y (held n all labels) → y .transaction < 512
+unfolding held
+held-few zero all labels few y m = absurd (among-none m)
+held-few (suc n) all labels few y m = among-split (held n all labels) (recordAt all labels n) m
+    (λ i. held-few n all labels (λ j h. few j (omega arith)) y i)
+    (λ e. subst (λ z. z .transaction < 512) (sym e) (few n (omega arith)))

@@ -8,3 +8,4 @@ pub mod Steps
 pub mod Round
 pub mod Meaning
 pub mod Held
+pub mod Standing

@@ -2,7 +2,7 @@
 -- A reader of the public promise need not read this.
 use Prim.Native.Nat.{ℕ, zero, suc, _<_, _≤_}
 use mathlib.Core.Path.{_≡_}
-use mathlib.Core.Bool.{Bool, false}
+use mathlib.Core.Bool.{Bool, false, _&&_, _||_}
 use mathlib.Core.List.{List, [], _∷_, _++_}
 use lib.ListN.{length, getD, take, drop}
 use Rattle.record.specs.declared.Event.{Event}
@@ -34,6 +34,11 @@ Few n labels = (i : ℕ) → i < n → getD labels i 0 < 512
 pub record Stands (w : List ℕ) (g : List Edge) : Type 0 where
   pub long : 4096 ≤ length w
   pub is : (a d : ℕ) → a < 512 → d < 512 → has w d a ≡ reaches g a d
+
+-- What spreading row t leaves: it is joined into each row that has bit t
+pub record Spread (t : ℕ) (before after : List ℕ) : Type 0 where
+  pub bits : (a d : ℕ) → a < 512 → d < 512 → has after d a ≡ (has before d a || (has before d t && has before t a))
+  pub rest : drop 4096 after ≡ drop 4096 before
 
 -- What taking in one record of transaction t, with which the edges are g, answers and leaves: whether there is now a cycle; all rows, unless there is;
 -- row t in any case

@@ -63,3 +63,8 @@ or-false-both false b e = (refl, e)
 pub not-false : (b : Bool) → not b ≡ false → b ≡ true
 not-false true e = refl
 not-false false e = absurd (subst T e tt)
+
+pub or-and-self : (a b : Bool) → (a || (b && a)) ≡ a
+or-and-self true b = refl
+or-and-self false true = refl
+or-and-self false false = refl
