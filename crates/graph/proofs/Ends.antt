@@ -29,7 +29,7 @@ edge x y = record { origin = x .transaction; goal = y .transaction }
 abbrev isAt : ℕ → ℕ → Edge → Bool
 isAt a b e = eqb (e .origin) a && eqb (e .goal) b
 
-some-append : {A : Type 0} (p : A → Bool) (u v : List A) → someOf p (u ++ v) ≡ (someOf p u || someOf p v)
+pub some-append : {A : Type 0} (p : A → Bool) (u v : List A) → someOf p (u ++ v) ≡ (someOf p u || someOf p v)
 unfolding someOf
 some-append p [] v = refl
 some-append p (x ∷ u) v = by (p x)

@@ -7,3 +7,5 @@ pub mod Demand3
 pub mod Steps
 pub mod Round
 pub mod Meaning
+pub mod Held
+pub mod Standing

@@ -45,12 +45,12 @@ before-end : {A : Type 0} {y : A} (l : List A) (x : A) → Among y l → Before 
 before-end (z ∷ l) x Among.top = Before.now (among-end l x)
 before-end (z ∷ l) x (Among.deeper m) = Before.under (before-end l x m)
 
-among-split : {A : Type 0} {C : Type 0} {y : A} (l : List A) (x : A) → Among y (l ++ (x ∷ [])) → (Among y l → C) → (y ≡ x → C) → C
+pub among-split : {A : Type 0} {C : Type 0} {y : A} (l : List A) (x : A) → Among y (l ++ (x ∷ [])) → (Among y l → C) → (y ≡ x → C) → C
 among-split [] x Among.top f g = g refl
 among-split (z ∷ l) x Among.top f g = f Among.top
 among-split (z ∷ l) x (Among.deeper m) f g = among-split l x m (λ n. f (Among.deeper n)) g
 
-among-none : {A : Type 0} {y : A} → Among y [] → ⊥
+pub among-none : {A : Type 0} {y : A} → Among y [] → ⊥
 among-none = elim [ ]
 
 before-none : {A : Type 0} {y z : A} → Before y z [] → ⊥

@@ -5,3 +5,4 @@ pub mod Edges
 pub mod Serial
 pub mod Violation
 pub mod Arranged
+pub mod Engine

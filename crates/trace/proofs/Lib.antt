@@ -3,6 +3,7 @@ pub mod Lists
 pub mod Swaps
 pub mod Together
 pub mod Reach
+pub mod Closing
 pub mod Order
 pub mod Greedy
 pub mod Moved

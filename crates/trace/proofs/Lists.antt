@@ -2,7 +2,7 @@
 use Prim.Native.Nat.{ℕ, zero, suc, _+_, _<_, _≤_}
 use native.Mathlib.Omega.{arith}
 use native.Mathlib.Nat.{add-zero, zero-add, add-suc, suc-add, le-of-suc-le-suc, not-suc-le-zero}
-use mathlib.Core.Path.{_≡_, refl, sym, ap, _∙_, subst}
+use mathlib.Core.Path.{_≡_, refl, sym, ap, ap₂, _∙_, subst}
 use mathlib.Core.Logic.{_≢_}
 use mathlib.Core.Bool.{Bool, true, false, not, cond, _&&_, _||_}
 use mathlib.Core.List.{List, [], _∷_, _++_, cons≢nil}
@@ -164,6 +164,11 @@ some-mono p q [] h t = t
 some-mono p q (x ∷ l) h t = subst T (sym (some-cons q x l)) (or-cases (p x) (someOf p l) (subst T (some-cons p x l) t)
     (λ u. or-left (q x) (someOf q l) (h x Among.top u))
     (λ u. or-right (q x) (someOf q l) (some-mono p q l (λ y m. h y (Among.deeper m)) u)))
+
+pub some-same : {A : Type 0} (p q : A → Bool) (l : List A) → ((x : A) → Among x l → p x ≡ q x) → someOf p l ≡ someOf q l
+unfolding someOf
+some-same p q [] h = refl
+some-same p q (x ∷ l) h = some-cons p x l ∙ ap₂ (λ a b. a || b) (h x Among.top) (some-same p q l (λ y m. h y (Among.deeper m))) ∙ sym (some-cons q x l)
 
 pub some-has : {A : Type 0} (p : A → Bool) (x : A) (l : List A) → Among x l → T (p x) → T (someOf p l)
 some-has p x (y ∷ l) Among.top t = subst T (sym (some-cons p x l)) (or-left (p x) (someOf p l) t)

@@ -1,12 +1,22 @@
 -- Tests as facts: by cases, and put together by && and ||.
 use mathlib.Core.Path.{_≡_, refl, sym, ap, _∙_, subst}
 use mathlib.Core.Bool.{Bool, true, false, not, cond, _&&_, _||_}
+use Prim.Native.Nat.{ℕ}
+use native.Mathlib.Decide.{ℕ-discrete}
 use lib.Dec.{T, T-not, not-T, eqb, ltb, eqb→eq, eqb-refl}
 
 -- by cases on a test, with its value at hand
 pub by {ℓ} : {C : Type ℓ} (b : Bool) → (b ≡ true → C) → (b ≡ false → C) → C
 by true f g = f refl
 by false f g = g refl
+
+-- by cases on whether two numbers are the same
+pub by-same {ℓ} : {C : Type ℓ} (m n : ℕ) → (m ≡ n → C) → ((m ≡ n → ⊥) → C) → C
+by-same {C} m n f g = go (ℕ-discrete m n)
+  where
+    go : Dec (m ≡ n) → C
+    go (yes e) = f e
+    go (no e) = g e
 
 pub T-of : {b : Bool} → b ≡ true → T b
 T-of e = subst T (sym e) tt
@@ -53,3 +63,8 @@ or-false-both false b e = (refl, e)
 pub not-false : (b : Bool) → not b ≡ false → b ≡ true
 not-false true e = refl
 not-false false e = absurd (subst T e tt)
+
+pub or-and-self : (a b : Bool) → (a || (b && a)) ≡ a
+or-and-self true b = refl
+or-and-self false true = refl
+or-and-self false false = refl

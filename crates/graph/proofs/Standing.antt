@@ -1,0 +1,224 @@
+-- The rows stand for who reaches whom: at the beginning, and after each record.
+use Prim.Native.Nat.{ℕ, suc, _<_, _≤_}
+use native.Mathlib.Omega.{arith}
+use mathlib.Core.Path.{_≡_, refl, sym, ap, ap₂, _∙_, subst}
+use mathlib.Core.Bool.{Bool, true, false, _&&_, _||_, or-assoc, or-false}
+use mathlib.Core.List.{List, [], _∷_, _++_}
+use borrow.Author.Tests.{ltb-true, ltb-false, lt-ltb, le-ltb, eq-eqb, ne-eqb}
+use lib.ListN.{length, drop}
+use lib.Dec.{T, eqb, ltb}
+use Rattle.trace.specs.Lists.{someOf}
+use Rattle.trace.specs.Paths.{Edge, reaches, cyclic}
+use Rattle.trace.proofs.Tests.{by, by-same, or-and-self}
+use Rattle.trace.proofs.Lists.{Among, some-cons, some-same}
+use Rattle.trace.proofs.Closing.{reaches-goal, reaches-beyond, cyclic-goal}
+use Rattle.rows.specs.Bits.{has, marked, joined, cleared}
+use Rattle.rows.proofs.Laws.{marked-same, marked-other, length-marked, rest-marked, joined-row, joined-other, length-joined, rest-joined, cleared-none, length-cleared, rest-cleared}
+use Rattle.graph.specs.Transactions.{Labelled}
+use Rattle.graph.specs.Edges.{makes, edges}
+use Rattle.graph.specs.Engine.{Stands, Spread, Closed}
+use Rattle.graph.proofs.Ends.{some-append}
+use Rattle.graph.proofs.Steps.{edges-snoc}
+
+-- the numbers are as many as they were, and from 4,096 on they are the same
+pub record Kept (before after : List ℕ) : Type 0 where
+  pub size : length after ≡ length before
+  pub rest : drop 4096 after ≡ drop 4096 before
+
+kept-then : (u v w : List ℕ) → Kept u v → length w ≡ length v → drop 4096 w ≡ drop 4096 v → Kept u w
+kept-then u v w k e f = record { size = e ∙ k .size; rest = f ∙ k .rest }
+
+-- ---- no edges: each reaches itself
+
+-- the first n bits of the diagonal are set, and no others
+pub record Diagonal (before : List ℕ) (n : ℕ) (after : List ℕ) : Type 0 where
+  pub kept : Kept before after
+  pub bits : (a d : ℕ) → a < 512 → d < 512 → has after d a ≡ (ltb d n && eqb a d)
+
+pub diagonal-none : (w : List ℕ) → 4096 ≤ length w → Diagonal w 0 (cleared w)
+diagonal-none w long = record {
+  kept = record { size = length-cleared w long; rest = rest-cleared w long };
+  bits = λ a d ha hd. cleared-none w long d a hd ha ∙ sym (ap (λ b. b && eqb a d) (le-ltb d 0 (omega arith)));
+}
+
+pub diagonal-more : (w₀ w : List ℕ) (n : ℕ) → 4096 ≤ length w₀ → n < 512 → Diagonal w₀ n w → Diagonal w₀ (suc n) (marked w n n)
+diagonal-more w₀ w n long h D = record {
+  kept = kept-then w₀ w (marked w n n) (D .kept) (length-marked w n n) (rest-marked w n n h h);
+  bits = bits;
+}
+  where
+    wide : 4096 ≤ length w
+    wide = omega (arith, D .kept .size)
+
+    other : (a d : ℕ) → a < 512 → d < 512 → (n ≡ d → n ≡ a → ⊥) → has (marked w n n) d a ≡ (ltb d n && eqb a d)
+    other a d ha hd ne = marked-other w n n h h wide d a ha ne ∙ D .bits a d ha hd
+
+    bits : (a d : ℕ) → a < 512 → d < 512 → has (marked w n n) d a ≡ (ltb d (suc n) && eqb a d)
+    bits a d ha hd = by-same d n
+        (λ e. by-same a n
+        (λ f. ap₂ (λ x y. has (marked w n n) x y) e f ∙ marked-same w n n h h wide
+        ∙ sym (ap₂ (λ x y. x && y) (lt-ltb d (suc n) (omega arith)) (eq-eqb a d (omega arith))))
+        (λ f. other a d ha hd (λ p q. f (sym q))
+        ∙ ap₂ (λ x y. x && y) (le-ltb d n (omega arith)) (ne-eqb a d (λ q. f (omega arith)))
+        ∙ sym (ap₂ (λ x y. x && y) (lt-ltb d (suc n) (omega arith)) (ne-eqb a d (λ q. f (omega arith))))))
+        (λ e. other a d ha hd (λ p q. e (sym p))
+        ∙ ap (λ x. x && eqb a d) (by (ltb d n)
+        (λ t. t ∙ sym (lt-ltb d (suc n) (omega (arith, ltb-true d n t))))
+        (λ t. t ∙ sym (le-ltb d (suc n) (omega (arith, ltb-false d n t))))))
+
+pub diagonal-stands : (w₀ w : List ℕ) → 4096 ≤ length w₀ → Diagonal w₀ 512 w → Stands w []
+unfolding reaches
+diagonal-stands w₀ w long D = record {
+  long = omega (arith, D .kept .size);
+  is = λ a d ha hd. D .bits a d ha hd ∙ ap (λ b. b && eqb a d) (lt-ltb d 512 hd);
+}
+
+-- ---- one record x of transaction t more
+
+-- who of ys, which stand before x, gives x's transaction an edge, and has bit a
+abbrev pub given : List ℕ → Labelled → List Labelled → ℕ → Bool
+given w x ys a = someOf (λ y. makes y x && has w (y .transaction) a) ys
+
+-- the rows of those of ys that give an edge are joined into row t
+pub record Gathered (before : List ℕ) (x : Labelled) (ys : List Labelled) (after : List ℕ) : Type 0 where
+  pub kept : Kept before after
+  pub row : (a : ℕ) → a < 512 → has after (x .transaction) a ≡ (has before (x .transaction) a || given before x ys a)
+  pub others : (a d : ℕ) → a < 512 → (d ≡ x .transaction → ⊥) → has after d a ≡ has before d a
+
+pub gathered-none : (w : List ℕ) (x : Labelled) → Gathered w x [] w
+unfolding someOf
+gathered-none w x = record {
+  kept = record { size = refl; rest = refl };
+  row = λ a ha. sym (or-false (has w (x .transaction) a));
+  others = λ a d ha ne. refl;
+}
+
+-- one more of ys, whether it gives an edge or not
+pub given-more : (w : List ℕ) (x y : Labelled) (ys : List Labelled) (a : ℕ) (b : Bool) → makes y x ≡ b
+    → given w x (ys ++ (y ∷ [])) a ≡ (given w x ys a || (b && has w (y .transaction) a))
+unfolding someOf
+given-more w x y ys a b e =
+    let p : Labelled → Bool = λ z. makes z x && has w (z .transaction) a in
+    some-append p ys (y ∷ [])
+    ∙ ap (λ c. someOf p ys || c) (some-cons p y [] ∙ or-false (p y) ∙ ap (λ c. c && has w (y .transaction) a) e)
+
+pub gathered-skip : (w₀ w : List ℕ) (x y : Labelled) (ys : List Labelled) → makes y x ≡ false → Gathered w₀ x ys w → Gathered w₀ x (ys ++ (y ∷ [])) w
+gathered-skip w₀ w x y ys e G = record {
+  kept = G .kept;
+  row = λ a ha. G .row a ha ∙ ap (λ c. has w₀ (x .transaction) a || c) (sym (given-more w₀ x y ys a false e ∙ or-false (given w₀ x ys a)));
+  others = G .others;
+}
+
+pub gathered-more : (w₀ w : List ℕ) (x y : Labelled) (ys : List Labelled) → 4096 ≤ length w₀ → x .transaction < 512 → y .transaction < 512
+    → (y .transaction ≡ x .transaction → ⊥) → makes y x ≡ true → Gathered w₀ x ys w → Gathered w₀ x (ys ++ (y ∷ [])) (joined w (x .transaction) (y .transaction))
+gathered-more w₀ w x y ys long in-x in-y ne e G =
+    let t : ℕ = x .transaction in
+    let s : ℕ = y .transaction in
+    let wide : 4096 ≤ length w = omega (arith, G .kept .size) in
+    record {
+      kept = kept-then w₀ w (joined w t s) (G .kept) (length-joined w t s in-x in-y wide) (rest-joined w t s in-x in-y wide);
+      row = λ a ha. joined-row w t s in-x in-y wide a ha
+          ∙ ap₂ (λ p q. p || q) (G .row a ha) (G .others a s ha ne)
+          ∙ or-assoc (has w₀ t a) (given w₀ x ys a) (has w₀ s a)
+          ∙ ap (λ c. has w₀ t a || c) (sym (given-more w₀ x y ys a true e));
+      others = λ a d ha nd. joined-other w t s in-x in-y wide d a ha nd ∙ G .others a d ha nd;
+    }
+
+-- ---- row t spread
+
+-- the first n rows are seen to
+pub record SpreadTo (t : ℕ) (before : List ℕ) (n : ℕ) (after : List ℕ) : Type 0 where
+  pub kept : Kept before after
+  pub done : (a d : ℕ) → a < 512 → d < n → has after d a ≡ (has before d a || (has before d t && has before t a))
+  pub left : (a d : ℕ) → a < 512 → n ≤ d → has after d a ≡ has before d a
+
+pub spread-none : (t : ℕ) (w : List ℕ) → SpreadTo t w 0 w
+spread-none t w = record {
+  kept = record { size = refl; rest = refl };
+  done = λ a d ha h. absurd (omega arith);
+  left = λ a d ha h. refl;
+}
+
+pub spread-all : (t : ℕ) (w₀ w : List ℕ) → SpreadTo t w₀ 512 w → Spread t w₀ w
+spread-all t w₀ w S = record { bits = λ a d ha hd. S .done a d ha hd; rest = S .kept .rest }
+
+module _ (t : ℕ) (w₀ w : List ℕ) (n : ℕ) (long : 4096 ≤ length w₀) (in-t : t < 512) (in-n : n < 512) (S : SpreadTo t w₀ n w) where
+  wide : 4096 ≤ length w
+  wide = omega (arith, S .kept .size)
+
+  -- row t is as it was
+  own : (a : ℕ) → a < 512 → has w t a ≡ has w₀ t a
+  own a ha = by (ltb t n)
+      (λ e. S .done a t ha (ltb-true t n e) ∙ or-and-self (has w₀ t a) (has w₀ t t))
+      (λ e. S .left a t ha (ltb-false t n e))
+
+  -- a row that is not n is as it was, or seen to
+  spread-on : (v : List ℕ) → Kept w₀ v → ((a d : ℕ) → a < 512 → (d ≡ n → ⊥) → has v d a ≡ has w d a)
+      → ((a : ℕ) → a < 512 → has v n a ≡ (has w₀ n a || (has w₀ n t && has w₀ t a))) → SpreadTo t w₀ (suc n) v
+  spread-on v k other here = record {
+    kept = k;
+    done = λ a d ha h. by-same d n
+        (λ e. subst (λ m. has v m a ≡ (has w₀ m a || (has w₀ m t && has w₀ t a))) (sym e) (here a ha))
+        (λ ne. other a d ha ne ∙ S .done a d ha (omega arith));
+    left = λ a d ha h. other a d ha (λ e. omega arith) ∙ S .left a d ha (omega arith);
+  }
+
+  pub spread-skip : has w n t ≡ false → SpreadTo t w₀ (suc n) w
+  spread-skip e = spread-on w (S .kept) (λ a d ha ne. refl)
+      (λ a ha. S .left a n ha (omega arith) ∙ sym (ap (λ c. has w₀ n a || (c && has w₀ t a)) (sym (S .left t n in-t (omega arith)) ∙ e) ∙ or-false (has w₀ n a)))
+
+  pub spread-more : has w n t ≡ true → SpreadTo t w₀ (suc n) (joined w n t)
+  spread-more e = spread-on (joined w n t)
+      (kept-then w₀ w (joined w n t) (S .kept) (length-joined w n t in-n in-t wide) (rest-joined w n t in-n in-t wide))
+      (λ a d ha ne. joined-other w n t in-n in-t wide d a ha ne)
+      (λ a ha. joined-row w n t in-n in-t wide a ha
+      ∙ ap₂ (λ p q. p || q) (S .left a n ha (omega arith)) (own a ha)
+      ∙ sym (ap (λ c. has w₀ n a || (c && has w₀ t a)) (sym (S .left t n in-t (omega arith)) ∙ e)))
+
+-- ---- the record taken in
+
+module _ (w₀ : List ℕ) (xs : List Labelled) (x : Labelled) (stands : Stands w₀ (edges xs)) (in-x : x .transaction < 512)
+    (in-xs : (y : Labelled) → Among y xs → y .transaction < 512) where
+  abbrev t : ℕ
+  t = x .transaction
+
+  abbrev g : List Edge
+  g = edges xs
+
+  abbrev h : List Edge
+  h = edges (xs ++ (x ∷ []))
+
+  -- the bits of the rows that give an edge say who reaches their transactions
+  given-is : (a : ℕ) → a < 512 → given w₀ x xs a ≡ someOf (λ y. makes y x && reaches g a (y .transaction)) xs
+  given-is a ha = some-same (λ y. makes y x && has w₀ (y .transaction) a) (λ y. makes y x && reaches g a (y .transaction)) xs
+      (λ y m. ap (λ c. makes y x && c) (stands .is a (y .transaction) ha (in-xs y m)))
+
+  pub gathered-cycle : cyclic g ≡ false → given w₀ x xs t ≡ cyclic h
+  gathered-cycle none = given-is t in-x ∙ sym (cyclic-goal g h t xs (λ y. y .transaction) (λ y. makes y x) (edges-snoc xs x) none)
+
+  pub gathered-row : (w : List ℕ) → Gathered w₀ x xs w → (a : ℕ) → a < 512 → has w t a ≡ reaches h a t
+  gathered-row w G a ha =
+      G .row a ha ∙ ap₂ (λ p q. p || q) (stands .is a t ha in-x) (given-is a ha)
+      ∙ sym (reaches-goal g h t xs (λ y. y .transaction) (λ y. makes y x) (edges-snoc xs x) a)
+
+  pub spread-stands : (w v : List ℕ) → Gathered w₀ x xs w → length v ≡ length w → Spread t w v → Stands v h
+  spread-stands w v G same S = record { long = omega (arith, stands .long, same, G .kept .size); is = is }
+    where
+      is : (a d : ℕ) → a < 512 → d < 512 → has v d a ≡ reaches h a d
+      is a d ha hd = by-same d t
+          (λ e. subst (λ k. has v k a ≡ reaches h a k) (sym e) (S .bits a t ha in-x ∙ or-and-self (has w t a) (has w t t) ∙ gathered-row w G a ha))
+          (λ ne. S .bits a d ha hd
+          ∙ ap₂ (λ p q. p || q) (G .others a d ha ne ∙ stands .is a d ha hd)
+          (ap₂ (λ p q. p && q) (G .others t d in-x ne ∙ stands .is t d in-x hd) (gathered-row w G a ha))
+          ∙ sym (reaches-beyond g h t xs (λ y. y .transaction) (λ y. makes y x) (edges-snoc xs x) a d))
+
+  -- no cycle, and row t is spread
+  pub closed-open : (w v : List ℕ) → Gathered w₀ x xs w → length v ≡ length w → Spread t w v → cyclic g ≡ false → (r : Bool) → r ≡ given w₀ x xs t → Closed h t w₀ v r
+  closed-open w v G same S none r e =
+      let st : Stands v h = spread-stands w v G same S in
+      record { cycle = e ∙ gathered-cycle none; stands = λ f. st; row = λ a ha. st .is a t ha in-x; rest = S .rest ∙ G .kept .rest }
+
+  -- a cycle, and nothing is spread
+  pub closed-cycle : (w : List ℕ) → Gathered w₀ x xs w → cyclic g ≡ false → (r : Bool) → r ≡ given w₀ x xs t → r ≡ true → Closed h t w₀ w r
+  closed-cycle w G none r e f =
+      record { cycle = e ∙ gathered-cycle none; stands = λ k. absurd (subst T (sym f ∙ k) tt); row = gathered-row w G; rest = G .kept .rest }

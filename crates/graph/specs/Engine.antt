@@ -1,0 +1,58 @@
+-- What the engine's private functions promise one another: the records as arrays hold them, and the rows that stand for who reaches whom.
+-- A reader of the public promise need not read this.
+use Prim.Native.Nat.{ℕ, zero, suc, _<_, _≤_}
+use mathlib.Core.Path.{_≡_}
+use mathlib.Core.Bool.{Bool, false, _&&_, _||_}
+use mathlib.Core.List.{List, [], _∷_, _++_}
+use lib.ListN.{length, getD, take, drop}
+use Rattle.record.specs.declared.Event.{Event}
+use Rattle.record.specs.declared.Op.the-variants.{Read}
+use Rattle.trace.specs.Lists.{firstOf, from}
+use Rattle.trace.specs.Paths.{Edge, reaches, cyclic}
+use Rattle.rows.specs.Bits.{has}
+use Rattle.graph.specs.Transactions.{Labelled}
+use Rattle.graph.specs.Edges.{edges}
+
+-- what stands for an event past the end of an array: zeros, and the first kind
+abbrev pub pastEnd : Event
+pastEnd = record { thread = 0; op = Read 0 0 }
+
+-- event i of an array, with its transaction from an array of labels
+abbrev pub recordAt : List Event → List ℕ → ℕ → Labelled
+recordAt all labels i = record { transaction = getD labels i 0; event = getD all i pastEnd }
+
+-- the first n events, with their transactions
+unfoldable pub held : ℕ → List Event → List ℕ → List Labelled
+held zero all labels = []
+held (suc n) all labels = held n all labels ++ (recordAt all labels n ∷ [])
+
+-- the first n labels number one of 512 transactions
+abbrev pub Few : ℕ → List ℕ → Type 0
+Few n labels = (i : ℕ) → i < n → getD labels i 0 < 512
+
+-- The rows stand for the edges: bit a of row d is set where a path leads from a to d
+pub record Stands (w : List ℕ) (g : List Edge) : Type 0 where
+  pub long : 4096 ≤ length w
+  pub is : (a d : ℕ) → a < 512 → d < 512 → has w d a ≡ reaches g a d
+
+-- What spreading row t leaves: it is joined into each row that has bit t
+pub record Spread (t : ℕ) (before after : List ℕ) : Type 0 where
+  pub bits : (a d : ℕ) → a < 512 → d < 512 → has after d a ≡ (has before d a || (has before d t && has before t a))
+  pub rest : drop 4096 after ≡ drop 4096 before
+
+-- What taking in one record of transaction t, with which the edges are g, answers and leaves: whether there is now a cycle; all rows, unless there is;
+-- row t in any case
+pub record Closed (g : List Edge) (t : ℕ) (before after : List ℕ) (r : Bool) : Type 0 where
+  pub cycle : r ≡ cyclic g
+  pub stands : r ≡ false → Stands after g
+  pub row : (a : ℕ) → a < 512 → has after t a ≡ reaches g a t
+  pub rest : drop 4096 after ≡ drop 4096 before
+
+-- What looking for the shortest prefix with a cycle answers and leaves: its number of records, or 0; all rows, unless there is one; in any case the row
+-- of the last record's transaction
+pub record Sought (xs : List Labelled) (labels : List ℕ) (before after : List ℕ) (r : ℕ) : Type 0 where
+  pub first : r ≡ firstOf (λ k. cyclic (edges (take k xs))) 0 (from 1 (length xs))
+  pub stands : r ≡ 0 → Stands after (edges xs)
+  pub none : r ≡ 0 → cyclic (edges xs) ≡ false
+  pub row : (k : ℕ) → r ≡ suc k → (a : ℕ) → a < 512 → has after (getD labels k 0) a ≡ reaches (edges (take (suc k) xs)) a (getD labels k 0)
+  pub rest : drop 4096 after ≡ drop 4096 before
