@@ -4,4 +4,5 @@ pub mod Swaps
 pub mod Edges
 pub mod Serial
 pub mod Violation
+pub mod Rule
 pub mod Arranged
