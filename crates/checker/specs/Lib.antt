@@ -1,5 +1,6 @@
 pub mod Verdict
 pub mod Refusals
 pub mod Judged
+pub mod Demand3
 pub mod Report
 pub mod Examples

@@ -1,4 +1,5 @@
--- The cycle that is reported is a cycle: from T along edges, each to another transaction, and back to T. The walk never runs out.
+-- The cycle that is reported follows the rule: from T along edges, each time to the lowest-numbered transaction that leads back, and to T. The walk
+-- never runs out, and never takes its default.
 use Prim.Native.Nat.{ℕ, zero, suc, pred, _+_, _<_, _≤_}
 use native.Mathlib.Omega.{arith}
 use native.Mathlib.Nat.{add-zero, add-suc, suc-add}
@@ -14,9 +15,10 @@ use Rattle.trace.specs.Lists.{someOf, keep, firstOf, from, below}
 use Rattle.trace.specs.Paths.{Edge, hasEdge, Path, reaches, cyclic}
 use Rattle.graph.specs.Transactions.{Tally, none-yet, tallied, Labelled, labelledFrom, labelled, transactions}
 use Rattle.graph.specs.Edges.{makes, edges}
+use Rattle.graph.specs.Rule.{Closes, Leads, Follows, Reported}
 use Rattle.graph.specs.Violation.{edgesUpTo, cyclicUpTo, shortest, transactionAt, closes, onward, walk, cycleOf}
 use Rattle.trace.proofs.Tests.{by, T-of, or-cases, and-left, and-right, and-both}
-use Rattle.trace.proofs.Lists.{Among, Before, among-cons, length-from, below-has, keep-has, count-all, some-has, Holds, some-at, among-length}
+use Rattle.trace.proofs.Lists.{Among, Before, among-cons, length-from, from-le, below-has, keep-has, count-all, some-has, Holds, some-at, among-length}
 use Rattle.trace.proofs.Reach.{Bounded, path-joined, sound, complete, edge-back}
 use Rattle.trace.proofs.Order.{ancestors, fewer}
 use Rattle.trace.proofs.Greedy.{Over}
@@ -24,16 +26,6 @@ use Rattle.graph.proofs.Ends.{has-pair}
 use Rattle.graph.proofs.Serializable.{sane-none, labels-lt, bounded-edges}
 use Rattle.graph.proofs.Demand3.{among-take, labelled-take, first-true, first-false, first-some, blank, number-at}
 use Rattle.graph.proofs.Steps.{among-first, among-end, edges-snoc}
-
--- from a along the list, and from its end to t
-abbrev pub On : List Edge → ℕ → ℕ → List ℕ → Type 0
-On g t a [] = T (hasEdge g a t)
-On g t a (b ∷ l) = T (hasEdge g a b) × (b ≢ t) × On g t b l
-
--- a cycle through t, t first
-abbrev pub Round : List Edge → ℕ → List ℕ → Type 0
-Round g t [] = ⊥
-Round g t (a ∷ l) = (a ≡ t) × On g t a l
 
 over-snoc : {g : List Edge} {a b c : ℕ} → Path g a b → T (hasEdge g b c) → Over g a c
 over-snoc {c} Path.here e = record { mid = c; edge = e; path = Path.here }
@@ -46,19 +38,25 @@ over-strict : {g : List Edge} {a b : ℕ} → a ≢ b → Path g a b → Over g 
 over-strict d Path.here = absurd (d refl)
 over-strict d (Path.there {b} e p) = record { mid = b; edge = e; path = p }
 
--- the first that passes, where one does
-first-passes : (p : ℕ → Bool) (d x : ℕ) (l : List ℕ) → Among x l → T (p x) → T (p (firstOf p d l)) × Among (firstOf p d l) l
+-- the first that passes, where one does; of numbers in order, it is the lowest
+first-hit : (p : ℕ → Bool) (d y : ℕ) (l : List ℕ) → p y ≡ true → firstOf p d (y ∷ l) ≡ y
 unfolding firstOf
-first-passes p d x (y ∷ l) m t = by (p y)
-    (λ e. subst (λ z. T (p z) × Among z (y ∷ l)) (sym (hit e)) (T-of e, Among.top))
-    (λ e. let r : T (p (firstOf p d l)) × Among (firstOf p d l) l = first-passes p d x l (among-cons m (λ q. absurd (subst T (ap p q ∙ e) t)) (λ n. n)) t in
-    subst (λ z. T (p z) × Among z (y ∷ l)) (sym (miss e)) (r .0, Among.deeper (r .1)))
-  where
-    hit : p y ≡ true → firstOf p d (y ∷ l) ≡ y
-    hit e = rw (e, firstOf)
+first-hit p d y l e = rw (e, firstOf)
 
-    miss : p y ≡ false → firstOf p d (y ∷ l) ≡ firstOf p d l
-    miss e = rw (e, firstOf)
+first-miss : (p : ℕ → Bool) (d y : ℕ) (l : List ℕ) → p y ≡ false → firstOf p d (y ∷ l) ≡ firstOf p d l
+unfolding firstOf
+first-miss p d y l e = rw (e, firstOf)
+
+first-passes : (p : ℕ → Bool) (d x : ℕ) (l : List ℕ) → Among x l → T (p x) → T (p (firstOf p d l))
+first-passes p d x (y ∷ l) m t = by (p y)
+    (λ e. subst (λ z. T (p z)) (sym (first-hit p d y l e)) (T-of e))
+    (λ e. subst (λ z. T (p z)) (sym (first-miss p d y l e)) (first-passes p d x l (among-cons m (λ q. absurd (subst T (ap p q ∙ e) t)) (λ n. n)) t))
+
+first-least : (p : ℕ → Bool) (d s n x : ℕ) → Among x (from s n) → T (p x) → firstOf p d (from s n) ≤ x
+unfolding from
+first-least p d s (suc n) x m t = by (p s)
+    (λ e. omega (arith, first-hit p d s (from (suc s) n) e, from-le s (suc n) x m))
+    (λ e. omega (arith, first-miss p d s (from (suc s) n) e, first-least p d (suc s) n x (among-cons m (λ q. absurd (subst T (ap p q ∙ e) t)) (λ k. k)) t))
 
 first-among : {A : Type 0} {x y : A} {l : List A} → Before x y l → Among x l
 first-among (Before.now m) = Among.top
@@ -118,38 +116,59 @@ module _ (n : ℕ) (xs : List Labelled) (x : Labelled) (small : (y : Labelled) �
   abbrev goes : ℕ → ℕ → Bool
   goes a b = not (eqb b t) && (hasEdge h a b && reaches h b t)
 
-  closes-edge : (a : ℕ) → T (closes n h t a) → T (hasEdge h a t)
+  closes-means : (a : ℕ) → T (closes n h t a) → Closes h t a
   unfolding closes
-  closes-edge a u = and-right (not (eqb a t)) (hasEdge h a t) u
+  closes-means a u = (
+    (λ q. T-not (eqb a t) (and-left (not (eqb a t)) (hasEdge h a t) u) (subst (λ z. T (eqb a z)) q (eqb-refl a))),
+    and-right (not (eqb a t)) (hasEdge h a t) u,
+  )
 
+  closes-made : (a : ℕ) → Closes h t a → T (closes n h t a)
+  unfolding closes
+  closes-made a c = and-both (not (eqb a t)) (hasEdge h a t) (not-T (eqb a t) (λ e. c .0 (eqb→eq a t e))) (c .1)
+
+  goes-means : (a b : ℕ) → T (goes a b) → Leads h t a b
+  goes-means a b u =
+      let two : T (hasEdge h a b && reaches h b t) = and-right (not (eqb b t)) (hasEdge h a b && reaches h b t) u in (
+        (λ q. T-not (eqb b t) (and-left (not (eqb b t)) (hasEdge h a b && reaches h b t) u) (subst (λ z. T (eqb b z)) q (eqb-refl b))),
+        and-left (hasEdge h a b) (reaches h b t) two,
+        sound h b t (and-right (hasEdge h a b) (reaches h b t) two),
+      )
+
+  goes-made : (a b : ℕ) → Leads h t a b → T (goes a b)
+  goes-made a b l =
+      and-both (not (eqb b t)) (hasEdge h a b && reaches h b t) (not-T (eqb b t) (λ e. l .0 (eqb→eq b t e)))
+      (and-both (hasEdge h a b) (reaches h b t) (l .1) (complete h (l .2)))
+
+  -- where the cycle goes on from a
   record Next (a : ℕ) : Type 0 where
-    edge : T (hasEdge h a (onward n h t a))
-    other : onward n h t a ≢ t
-    over : Over h (onward n h t a) t
+    leads : Leads h t a (onward n h t a)
+    lowest : (c : ℕ) → Leads h t a c → onward n h t a ≤ c
 
   -- from a transaction with a path to t, where the cycle does not close, it goes on
-  next : (a : ℕ) → Over h a t → closes n h t a ≡ false → Next a
-  unfolding closes onward
+  next : (a : ℕ) → Over h a t → (Closes h t a → ⊥) → Next a
+  unfolding onward
   next a o c =
       let m : ℕ = o .mid in
       let mt : m ≢ t = λ q. by (eqb a t)
       (λ e. ends a m (o .edge) .2 (eqb→eq a t (T-of e) ∙ sym q))
-      (λ e. subst T c (and-both (not (eqb a t)) (hasEdge h a t) (T-of (ap not e)) (subst (λ z. T (hasEdge h a z)) q (o .edge)))) in
-      let r = first-passes (goes a) 0 m (below n) (below-has n m (ends a m (o .edge) .1))
-      (and-both (not (eqb m t)) (hasEdge h a m && reaches h m t) (not-T (eqb m t) (λ e. mt (eqb→eq m t e))) (and-both (hasEdge h a m) (reaches h m t) (o .edge) (complete h (o .path)))) in
-      let b : ℕ = firstOf (goes a) 0 (below n) in
-      let bt : b ≢ t = λ q. T-not (eqb b t) (and-left (not (eqb b t)) (hasEdge h a b && reaches h b t) (r .0)) (subst (λ z. T (eqb b z)) q (eqb-refl b)) in
-      let two : T (hasEdge h a b && reaches h b t) = and-right (not (eqb b t)) (hasEdge h a b && reaches h b t) (r .0) in
-      record { edge = and-left (hasEdge h a b) (reaches h b t) two; other = bt; over = over-strict bt (sound h b t (and-right (hasEdge h a b) (reaches h b t) two)) }
+      (λ e. c ((λ z. subst T e (subst (λ y. T (eqb a y)) z (eqb-refl a))), subst (λ z. T (hasEdge h a z)) q (o .edge))) in
+      record {
+        leads = goes-means a (firstOf (goes a) 0 (below n)) (first-passes (goes a) 0 m (below n) (below-has n m (ends a m (o .edge) .1)) (goes-made a m (mt, o .edge, o .path)));
+        lowest = λ d l. first-least (goes a) 0 0 n d (below-has n d (ends a d (l .1) .1)) (goes-made a d l);
+      }
 
-  round : (k a : ℕ) → Over h a t → n < k + rank a → (l : List ℕ) × (walk n h t k a ≡ a ∷ l) × On h t a l
+  round : (k a : ℕ) → Over h a t → n < k + rank a → (l : List ℕ) × (walk n h t k a ≡ a ∷ l) × Follows h t a l
   unfolding walk
   round zero a o k = absurd (omega (arith, rank-le a))
   round (suc k) a o lt = by (closes n h t a)
-      (λ c. ([], stop c, closes-edge a (T-of c)))
-      (λ c. let x = next a o c in
-      let r = round k (onward n h t a) (x .over) (omega (arith, fewer n (edges xs) acyclic a (onward n h t a) (ends a (onward n h t a) (x .edge) .0) (ends a (onward n h t a) (x .edge) .1) (old-edge a (onward n h t a) (x .edge) (x .other)))) in
-      (onward n h t a ∷ r .0, go c ∙ ap (λ z. a ∷ z) (r .1), (x .edge, x .other, r .2)))
+      (λ c. ([], stop c, closes-means a (T-of c)))
+      (λ c. let b : ℕ = onward n h t a in
+      let no : Closes h t a → ⊥ = λ d. subst T c (closes-made a d) in
+      let x = next a o no in
+      let r = round k b (over-strict (x .leads .0) (x .leads .2))
+      (omega (arith, fewer n (edges xs) acyclic a b (ends a b (x .leads .1) .0) (ends a b (x .leads .1) .1) (old-edge a b (x .leads .1) (x .leads .0)))) in
+      (b ∷ r .0, go c ∙ ap (λ z. a ∷ z) (r .1), (no, x .leads, x .lowest, r .2)))
     where
       stop : closes n h t a ≡ true → walk n h t (suc k) a ≡ a ∷ []
       stop c = rw (c, walk)
@@ -157,15 +176,15 @@ module _ (n : ℕ) (xs : List Labelled) (x : Labelled) (small : (y : Labelled) �
       go : closes n h t a ≡ false → walk n h t (suc k) a ≡ a ∷ walk n h t k (onward n h t a)
       go c = rw (c, walk)
 
-  -- the walk from t is a cycle through t
-  walk-right : T (cyclic h) → Round h t (walk n h t n t)
+  -- the walk from t follows the rule
+  walk-right : T (cyclic h) → Reported h t (walk n h t n t)
   walk-right u =
       let r = round n t (loop-at u) (omega (
         arith,
         among-length (keep (λ c. reaches (edges xs) c t) (below n))
             (keep-has (λ c. reaches (edges xs) c t) t (below n) (below-has n t (small x (among-end xs x))) (complete (edges xs) Path.here)),
       )) in
-      subst (Round h t) (sym (r .1)) (refl, r .2)
+      subst (Reported h t) (sym (r .1)) (refl, r .2)
 
 -- ---- of a recording
 
@@ -198,8 +217,8 @@ earliest p s (suc m) k e = by (p s)
     above : (s j : ℕ) → s ≤ j → s ≢ j → suc s ≤ j
     above s j a d = omega arith
 
--- The cycle that is reported is a cycle of edges of the prefix, through the transaction of its last record
-pub cycle-right : (es : List Event) (k : ℕ) → shortest es ≡ suc k → Round (edgesUpTo es (suc k)) (transactionAt es k) (cycleOf es (suc k))
+-- The cycle that is reported is a cycle of edges of the prefix, from the transaction of its last record on, chosen by the rule
+pub cycle-right : (es : List Event) (k : ℕ) → shortest es ≡ suc k → Reported (edgesUpTo es (suc k)) (transactionAt es k) (cycleOf es (suc k))
 unfolding shortest cyclicUpTo edgesUpTo cycleOf transactionAt transactions
 cycle-right es k e =
     let xs : List Labelled = labelled (take k es) in
@@ -209,8 +228,8 @@ cycle-right es k e =
     labelled-take none-yet (suc k) es ∙ take-suc (labelled es) k blank (omega (arith, q .inside, labelled-length none-yet es)) ∙ ap (λ l. l ++ (x ∷ [])) (sym (labelled-take none-yet k es)) in
     let small : (y : Labelled) → Among y (xs ++ (x ∷ [])) → y .transaction < transactions es =
     λ y m. labels-lt none-yet es sane-none y (among-take (suc k) y (labelled es) (subst (λ l. Among y l) (sym is ∙ labelled-take none-yet (suc k) es) m)) in
-    subst (λ l. Round (edges l) (transactionAt es k) (walk (transactions es) (edges l) (transactionAt es k) (transactions es) (transactionAt es k))) (sym is)
-    (subst (λ T₀. Round (edges (xs ++ (x ∷ []))) T₀ (walk (transactions es) (edges (xs ++ (x ∷ []))) T₀ (transactions es) T₀)) (sym (number-at (labelled es) k))
+    subst (λ l. Reported (edges l) (transactionAt es k) (walk (transactions es) (edges l) (transactionAt es k) (transactions es) (transactionAt es k))) (sym is)
+    (subst (λ T₀. Reported (edges (xs ++ (x ∷ []))) T₀ (walk (transactions es) (edges (xs ++ (x ∷ []))) T₀ (transactions es) T₀)) (sym (number-at (labelled es) k))
     (walk-right (transactions es) xs x small (before k q) (subst (λ l. T (cyclic (edges l))) is (first-some (cyclicUpTo es) (from 1 (length es)) k e))))
   where
     before : (k : ℕ) → Earliest (cyclicUpTo es) 1 (length es) (suc k) → cyclic (edges (labelled (take k es))) ≡ false

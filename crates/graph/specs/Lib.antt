@@ -4,5 +4,6 @@ pub mod Swaps
 pub mod Edges
 pub mod Serial
 pub mod Violation
+pub mod Rule
 pub mod Arranged
 pub mod Engine

@@ -72,6 +72,11 @@ unfolding from
 from-bound s (suc n) a Among.top = omega arith
 from-bound s (suc n) a (Among.deeper m) = omega (arith, from-bound (suc s) n a m)
 
+pub from-le : (s n a : ℕ) → Among a (from s n) → s ≤ a
+unfolding from
+from-le s (suc n) a Among.top = omega arith
+from-le s (suc n) a (Among.deeper m) = omega (arith, from-le (suc s) n a m)
+
 pub below-bound : (n a : ℕ) → Among a (below n) → a < n
 below-bound n a m = subst (λ k. a < k) (zero-add n) (from-bound 0 n a m)
 

@@ -3,6 +3,7 @@ use Prim.Native.Nat.{ℕ, zero, suc}
 use mathlib.Core.Path.{_≡_, refl, sym, ap, _∙_, subst}
 use mathlib.Core.Bool.{Bool, true, false, not, _&&_, _||_}
 use mathlib.Core.List.{List, [], _∷_, _++_, map, append-assoc, cons≢nil}
+use lib.ListN.{length}
 use lib.Dec.{T, T-not, not-T}
 use Rattle.trace.specs.Lists.{keep}
 use Rattle.trace.specs.Swaps.{Swap, Swaps}
@@ -17,6 +18,15 @@ module _ {A : Type 0} (conflict : A → A → Bool) where
   pub swaps-trans : {l k m : List A} → Swaps conflict l k → Swaps conflict k m → Swaps conflict l m
   swaps-trans done t = t
   swaps-trans (swap s r) t = swap s (swaps-trans r t)
+
+  swap-back : ((a b : A) → conflict a b ≡ conflict b a) → {l k : List A} → Swap conflict l k → Swap conflict k l
+  swap-back sames (first {a} {b} n) = first (subst (λ c. T (not c)) (sames a b) n)
+  swap-back sames (later s) = later (swap-back sames s)
+
+  -- where the test is symmetric, swaps can be taken back
+  pub swaps-back : ((a b : A) → conflict a b ≡ conflict b a) → {l k : List A} → Swaps conflict l k → Swaps conflict k l
+  swaps-back sames done = done
+  swaps-back sames (swap s r) = swaps-trans (swaps-back sames r) (swap (swap-back sames s) done)
 
   pub swaps-later : (a : A) {l k : List A} → Swaps conflict l k → Swaps conflict (a ∷ l) (a ∷ k)
   swaps-later a done = done
@@ -80,6 +90,19 @@ module _ {A : Type 0} (conflict : A → A → Bool) where
   among-swap (first n) (deeper (deeper m)) = deeper (deeper m)
   among-swap (later s) top = top
   among-swap (later s) (deeper m) = deeper (among-swap s m)
+
+  -- swaps keep what there is, and how many
+  pub among-swaps : {b : A} {l k : List A} → Swaps conflict l k → Among b l → Among b k
+  among-swaps done m = m
+  among-swaps (swap s r) m = among-swaps r (among-swap s m)
+
+  length-swap : {l k : List A} → Swap conflict l k → length l ≡ length k
+  length-swap (first n) = refl
+  length-swap (later s) = ap suc (length-swap s)
+
+  pub length-swaps : {l k : List A} → Swaps conflict l k → length l ≡ length k
+  length-swaps done = refl
+  length-swaps (swap s r) = length-swap s ∙ length-swaps r
 
   before-swap : {a b : A} {l k : List A} → T (conflict a b) → Swap conflict l k → Before a b l → Before a b k
   before-swap {a} {b} c (first n) (now top) = absurd (T-not (conflict a b) n c)
