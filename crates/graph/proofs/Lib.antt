@@ -9,3 +9,4 @@ pub mod Round
 pub mod Meaning
 pub mod Held
 pub mod Standing
+pub mod Seeking

@@ -2,18 +2,19 @@
 use Prim.Native.Nat.{ℕ, suc, _<_, _≤_}
 use native.Mathlib.Omega.{arith}
 use mathlib.Core.Path.{_≡_, refl, sym, ap, ap₂, _∙_, subst}
-use mathlib.Core.Bool.{Bool, true, false, _&&_, _||_, or-assoc, or-false}
+use mathlib.Core.Bool.{Bool, true, false, cond, not, _&&_, _||_, or-assoc, or-false}
 use mathlib.Core.List.{List, [], _∷_, _++_}
 use borrow.Author.Tests.{ltb-true, ltb-false, lt-ltb, le-ltb, eq-eqb, ne-eqb}
 use lib.ListN.{length, drop}
-use lib.Dec.{T, eqb, ltb}
+use lib.Dec.{T, T-not, eqb, ltb, eqb-refl}
 use Rattle.trace.specs.Lists.{someOf}
 use Rattle.trace.specs.Paths.{Edge, reaches, cyclic}
-use Rattle.trace.proofs.Tests.{by, by-same, or-and-self}
+use Rattle.trace.proofs.Tests.{by, by-same, T-of, and-left, or-and-self}
 use Rattle.trace.proofs.Lists.{Among, some-cons, some-same}
 use Rattle.trace.proofs.Closing.{reaches-goal, reaches-beyond, cyclic-goal}
 use Rattle.rows.specs.Bits.{has, marked, joined, cleared}
-use Rattle.rows.proofs.Laws.{marked-same, marked-other, length-marked, rest-marked, joined-row, joined-other, length-joined, rest-joined, cleared-none, length-cleared, rest-cleared}
+use Rattle.rows.proofs.Laws.{marked-same, marked-other, length-marked, rest-marked, joined-row, joined-other, length-joined, rest-joined, cleared-none}
+use Rattle.graph.specs.Conflict.{conflict}
 use Rattle.graph.specs.Transactions.{Labelled}
 use Rattle.graph.specs.Edges.{makes, edges}
 use Rattle.graph.specs.Engine.{Stands, Spread, Closed}
@@ -25,7 +26,7 @@ pub record Kept (before after : List ℕ) : Type 0 where
   pub size : length after ≡ length before
   pub rest : drop 4096 after ≡ drop 4096 before
 
-kept-then : (u v w : List ℕ) → Kept u v → length w ≡ length v → drop 4096 w ≡ drop 4096 v → Kept u w
+pub kept-then : (u v w : List ℕ) → Kept u v → length w ≡ length v → drop 4096 w ≡ drop 4096 v → Kept u w
 kept-then u v w k e f = record { size = e ∙ k .size; rest = f ∙ k .rest }
 
 -- ---- no edges: each reaches itself
@@ -35,9 +36,9 @@ pub record Diagonal (before : List ℕ) (n : ℕ) (after : List ℕ) : Type 0 wh
   pub kept : Kept before after
   pub bits : (a d : ℕ) → a < 512 → d < 512 → has after d a ≡ (ltb d n && eqb a d)
 
-pub diagonal-none : (w : List ℕ) → 4096 ≤ length w → Diagonal w 0 (cleared w)
+pub diagonal-none : (w : List ℕ) → 4096 ≤ length w → Diagonal (cleared w) 0 (cleared w)
 diagonal-none w long = record {
-  kept = record { size = length-cleared w long; rest = rest-cleared w long };
+  kept = record { size = refl; rest = refl };
   bits = λ a d ha hd. cleared-none w long d a hd ha ∙ sym (ap (λ b. b && eqb a d) (le-ltb d 0 (omega arith)));
 }
 
@@ -79,50 +80,81 @@ diagonal-stands w₀ w long D = record {
 abbrev pub given : List ℕ → Labelled → List Labelled → ℕ → Bool
 given w x ys a = someOf (λ y. makes y x && has w (y .transaction) a) ys
 
--- the rows of those of ys that give an edge are joined into row t
-pub record Gathered (before : List ℕ) (x : Labelled) (ys : List Labelled) (after : List ℕ) : Type 0 where
+-- the rows of those of ys that give an edge are joined into row t, and whether t reaches one of them is found
+pub record Gathered (before : List ℕ) (x : Labelled) (ys : List Labelled) (after : List ℕ) (found : Bool) : Type 0 where
   pub kept : Kept before after
   pub row : (a : ℕ) → a < 512 → has after (x .transaction) a ≡ (has before (x .transaction) a || given before x ys a)
   pub others : (a d : ℕ) → a < 512 → (d ≡ x .transaction → ⊥) → has after d a ≡ has before d a
+  pub closes : found ≡ given before x ys (x .transaction)
 
-pub gathered-none : (w : List ℕ) (x : Labelled) → Gathered w x [] w
+pub gathered-none : (w : List ℕ) (x : Labelled) → Gathered w x [] w false
 unfolding someOf
 gathered-none w x = record {
   kept = record { size = refl; rest = refl };
   row = λ a ha. sym (or-false (has w (x .transaction) a));
   others = λ a d ha ne. refl;
+  closes = refl;
 }
 
--- one more of ys, whether it gives an edge or not
-pub given-more : (w : List ℕ) (x y : Labelled) (ys : List Labelled) (a : ℕ) (b : Bool) → makes y x ≡ b
-    → given w x (ys ++ (y ∷ [])) a ≡ (given w x ys a || (b && has w (y .transaction) a))
-unfolding someOf
-given-more w x y ys a b e =
-    let p : Labelled → Bool = λ z. makes z x && has w (z .transaction) a in
-    some-append p ys (y ∷ [])
-    ∙ ap (λ c. someOf p ys || c) (some-cons p y [] ∙ or-false (p y) ∙ ap (λ c. c && has w (y .transaction) a) e)
+-- an edge goes to another transaction
+makes-other : (x y : Labelled) → makes y x ≡ true → y .transaction ≡ x .transaction → ⊥
+unfolding makes
+makes-other x y e same =
+    T-not (eqb (y .transaction) (x .transaction)) (and-left (not (eqb (y .transaction) (x .transaction))) (conflict (y .event) (x .event)) (T-of e))
+    (subst (λ k. T (eqb (y .transaction) k)) same (eqb-refl (y .transaction)))
 
-pub gathered-skip : (w₀ w : List ℕ) (x y : Labelled) (ys : List Labelled) → makes y x ≡ false → Gathered w₀ x ys w → Gathered w₀ x (ys ++ (y ∷ [])) w
-gathered-skip w₀ w x y ys e G = record {
-  kept = G .kept;
-  row = λ a ha. G .row a ha ∙ ap (λ c. has w₀ (x .transaction) a || c) (sym (given-more w₀ x y ys a false e ∙ or-false (given w₀ x ys a)));
-  others = G .others;
-}
+-- what makes an edge: another transaction, and a conflict
+pub makes-own : (x y : Labelled) → y .transaction ≡ x .transaction → makes y x ≡ false
+unfolding makes
+makes-own x y e = ap (λ b. not b && conflict (y .event) (x .event)) (eq-eqb (y .transaction) (x .transaction) e)
 
-pub gathered-more : (w₀ w : List ℕ) (x y : Labelled) (ys : List Labelled) → 4096 ≤ length w₀ → x .transaction < 512 → y .transaction < 512
-    → (y .transaction ≡ x .transaction → ⊥) → makes y x ≡ true → Gathered w₀ x ys w → Gathered w₀ x (ys ++ (y ∷ [])) (joined w (x .transaction) (y .transaction))
-gathered-more w₀ w x y ys long in-x in-y ne e G =
-    let t : ℕ = x .transaction in
-    let s : ℕ = y .transaction in
-    let wide : 4096 ≤ length w = omega (arith, G .kept .size) in
-    record {
-      kept = kept-then w₀ w (joined w t s) (G .kept) (length-joined w t s in-x in-y wide) (rest-joined w t s in-x in-y wide);
-      row = λ a ha. joined-row w t s in-x in-y wide a ha
-          ∙ ap₂ (λ p q. p || q) (G .row a ha) (G .others a s ha ne)
-          ∙ or-assoc (has w₀ t a) (given w₀ x ys a) (has w₀ s a)
-          ∙ ap (λ c. has w₀ t a || c) (sym (given-more w₀ x y ys a true e));
-      others = λ a d ha nd. joined-other w t s in-x in-y wide d a ha nd ∙ G .others a d ha nd;
-    }
+pub makes-by : (x y : Labelled) (b : Bool) → (y .transaction ≡ x .transaction → ⊥) → b ≡ conflict (y .event) (x .event) → makes y x ≡ b
+unfolding makes
+makes-by x y b ne e = ap (λ c. not c && conflict (y .event) (x .event)) (ne-eqb (y .transaction) (x .transaction) ne) ∙ sym e
+
+module _ (w₀ w : List ℕ) (x y : Labelled) (ys : List Labelled) (found : Bool) (long : 4096 ≤ length w₀) (in-x : x .transaction < 512)
+    (in-y : y .transaction < 512) (G : Gathered w₀ x ys w found) where
+  -- one more of ys
+  given-more : (a : ℕ) (b : Bool) → makes y x ≡ b → given w₀ x (ys ++ (y ∷ [])) a ≡ (given w₀ x ys a || (b && has w₀ (y .transaction) a))
+  unfolding someOf
+  given-more a b e =
+      let p : Labelled → Bool = λ z. makes z x && has w₀ (z .transaction) a in
+      some-append p ys (y ∷ [])
+      ∙ ap (λ c. someOf p ys || c) (some-cons p y [] ∙ or-false (p y) ∙ ap (λ c. c && has w₀ (y .transaction) a) e)
+
+  gathered-skip : makes y x ≡ false → Gathered w₀ x (ys ++ (y ∷ [])) w (found || false)
+  gathered-skip e = record {
+    kept = G .kept;
+    row = λ a ha. G .row a ha ∙ ap (λ c. has w₀ (x .transaction) a || c) (sym (given-more a false e ∙ or-false (given w₀ x ys a)));
+    others = G .others;
+    closes = ap (λ c. c || false) (G .closes) ∙ sym (given-more (x .transaction) false e);
+  }
+
+  gathered-more : makes y x ≡ true → Gathered w₀ x (ys ++ (y ∷ [])) (joined w (x .transaction) (y .transaction)) (found || has w (y .transaction) (x .transaction))
+  gathered-more e =
+      let t : ℕ = x .transaction in
+      let s : ℕ = y .transaction in
+      let ne : s ≡ t → ⊥ = makes-other x y e in
+      let wide : 4096 ≤ length w = omega (arith, G .kept .size) in
+      record {
+        kept = kept-then w₀ w (joined w t s) (G .kept) (length-joined w t s in-x in-y wide) (rest-joined w t s in-x in-y wide);
+        row = λ a ha. joined-row w t s in-x in-y wide a ha
+            ∙ ap₂ (λ p q. p || q) (G .row a ha) (G .others a s ha ne)
+            ∙ or-assoc (has w₀ t a) (given w₀ x ys a) (has w₀ s a)
+            ∙ ap (λ c. has w₀ t a || c) (sym (given-more a true e));
+        others = λ a d ha nd. joined-other w t s in-x in-y wide d a ha nd ∙ G .others a d ha nd;
+        closes = ap₂ (λ p q. p || q) (G .closes) (G .others t s in-x ne) ∙ sym (given-more t true e);
+      }
+
+  -- what `take_edge` answers and leaves
+  pub gathered-step : (v : List ℕ) (r : Bool) → r ≡ (makes y x && has w (y .transaction) (x .transaction))
+      → v ≡ cond (makes y x) (joined w (x .transaction) (y .transaction)) w → Gathered w₀ x (ys ++ (y ∷ [])) v (found || r)
+  gathered-step v r p q = by (makes y x)
+      (λ e. over (p ∙ ap (λ b. b && has w (y .transaction) (x .transaction)) e) (q ∙ ap (λ b. cond b (joined w (x .transaction) (y .transaction)) w) e) (gathered-more e))
+      (λ e. over (p ∙ ap (λ b. b && has w (y .transaction) (x .transaction)) e) (q ∙ ap (λ b. cond b (joined w (x .transaction) (y .transaction)) w) e) (gathered-skip e))
+    where
+      over : {v u : List ℕ} {r c : Bool} → r ≡ c → v ≡ u → Gathered w₀ x (ys ++ (y ∷ [])) u (found || c) → Gathered w₀ x (ys ++ (y ∷ [])) v (found || r)
+      over {u} {r} e f g = subst (λ l. Gathered w₀ x (ys ++ (y ∷ [])) l (found || r)) (sym f) (subst (λ b. Gathered w₀ x (ys ++ (y ∷ [])) u (found || b)) (sym e) g)
 
 -- ---- row t spread
 
@@ -193,32 +225,37 @@ module _ (w₀ : List ℕ) (xs : List Labelled) (x : Labelled) (stands : Stands 
   given-is a ha = some-same (λ y. makes y x && has w₀ (y .transaction) a) (λ y. makes y x && reaches g a (y .transaction)) xs
       (λ y m. ap (λ c. makes y x && c) (stands .is a (y .transaction) ha (in-xs y m)))
 
-  pub gathered-cycle : cyclic g ≡ false → given w₀ x xs t ≡ cyclic h
+  gathered-cycle : cyclic g ≡ false → given w₀ x xs t ≡ cyclic h
   gathered-cycle none = given-is t in-x ∙ sym (cyclic-goal g h t xs (λ y. y .transaction) (λ y. makes y x) (edges-snoc xs x) none)
 
-  pub gathered-row : (w : List ℕ) → Gathered w₀ x xs w → (a : ℕ) → a < 512 → has w t a ≡ reaches h a t
-  gathered-row w G a ha =
-      G .row a ha ∙ ap₂ (λ p q. p || q) (stands .is a t ha in-x) (given-is a ha)
-      ∙ sym (reaches-goal g h t xs (λ y. y .transaction) (λ y. makes y x) (edges-snoc xs x) a)
+  module _ (w : List ℕ) (found : Bool) (G : Gathered w₀ x xs w found) (none : cyclic g ≡ false) where
+    gathered-row : (a : ℕ) → a < 512 → has w t a ≡ reaches h a t
+    gathered-row a ha =
+        G .row a ha ∙ ap₂ (λ p q. p || q) (stands .is a t ha in-x) (given-is a ha)
+        ∙ sym (reaches-goal g h t xs (λ y. y .transaction) (λ y. makes y x) (edges-snoc xs x) a)
 
-  pub spread-stands : (w v : List ℕ) → Gathered w₀ x xs w → length v ≡ length w → Spread t w v → Stands v h
-  spread-stands w v G same S = record { long = omega (arith, stands .long, same, G .kept .size); is = is }
-    where
-      is : (a d : ℕ) → a < 512 → d < 512 → has v d a ≡ reaches h a d
-      is a d ha hd = by-same d t
-          (λ e. subst (λ k. has v k a ≡ reaches h a k) (sym e) (S .bits a t ha in-x ∙ or-and-self (has w t a) (has w t t) ∙ gathered-row w G a ha))
-          (λ ne. S .bits a d ha hd
-          ∙ ap₂ (λ p q. p || q) (G .others a d ha ne ∙ stands .is a d ha hd)
-          (ap₂ (λ p q. p && q) (G .others t d in-x ne ∙ stands .is t d in-x hd) (gathered-row w G a ha))
-          ∙ sym (reaches-beyond g h t xs (λ y. y .transaction) (λ y. makes y x) (edges-snoc xs x) a d))
+    spread-is : (v : List ℕ) → Spread t w v → (a d : ℕ) → a < 512 → d < 512 → has v d a ≡ reaches h a d
+    spread-is v S a d ha hd = by-same d t
+        (λ e. subst (λ k. has v k a ≡ reaches h a k) (sym e) (S .bits a t ha in-x ∙ or-and-self (has w t a) (has w t t) ∙ gathered-row a ha))
+        (λ ne. S .bits a d ha hd
+        ∙ ap₂ (λ p q. p || q) (G .others a d ha ne ∙ stands .is a d ha hd)
+        (ap₂ (λ p q. p && q) (G .others t d in-x ne ∙ stands .is t d in-x hd) (gathered-row a ha))
+        ∙ sym (reaches-beyond g h t xs (λ y. y .transaction) (λ y. makes y x) (edges-snoc xs x) a d))
 
-  -- no cycle, and row t is spread
-  pub closed-open : (w v : List ℕ) → Gathered w₀ x xs w → length v ≡ length w → Spread t w v → cyclic g ≡ false → (r : Bool) → r ≡ given w₀ x xs t → Closed h t w₀ v r
-  closed-open w v G same S none r e =
-      let st : Stands v h = spread-stands w v G same S in
-      record { cycle = e ∙ gathered-cycle none; stands = λ f. st; row = λ a ha. st .is a t ha in-x; rest = S .rest ∙ G .kept .rest }
+    -- no cycle, and row t is spread
+    pub closed-open : (v : List ℕ) → length v ≡ length w → Spread t w v → Closed h t w₀ v found
+    closed-open v same S = record {
+      cycle = G .closes ∙ gathered-cycle none;
+      stands = λ f. record { long = omega (arith, stands .long, same, G .kept .size); is = spread-is v S };
+      row = λ a ha. spread-is v S a t ha in-x;
+      rest = S .rest ∙ G .kept .rest;
+    }
 
-  -- a cycle, and nothing is spread
-  pub closed-cycle : (w : List ℕ) → Gathered w₀ x xs w → cyclic g ≡ false → (r : Bool) → r ≡ given w₀ x xs t → r ≡ true → Closed h t w₀ w r
-  closed-cycle w G none r e f =
-      record { cycle = e ∙ gathered-cycle none; stands = λ k. absurd (subst T (sym f ∙ k) tt); row = gathered-row w G; rest = G .kept .rest }
+    -- a cycle, and nothing is spread
+    pub closed-cycle : found ≡ true → Closed h t w₀ w found
+    closed-cycle f = record {
+      cycle = G .closes ∙ gathered-cycle none;
+      stands = λ k. absurd (subst T (sym f ∙ k) tt);
+      row = gathered-row;
+      rest = G .kept .rest;
+    }

@@ -17,9 +17,12 @@ use Rattle.graph.specs.Edges.{edges}
 abbrev pub pastEnd : Event
 pastEnd = record { thread = 0; op = Read 0 0 }
 
+abbrev pub labelledAs : ℕ → Event → Labelled
+labelledAs t e = record { transaction = t; event = e }
+
 -- event i of an array, with its transaction from an array of labels
 abbrev pub recordAt : List Event → List ℕ → ℕ → Labelled
-recordAt all labels i = record { transaction = getD labels i 0; event = getD all i pastEnd }
+recordAt all labels i = labelledAs (getD labels i 0) (getD all i pastEnd)
 
 -- the first n events, with their transactions
 unfoldable pub held : ℕ → List Event → List ℕ → List Labelled
