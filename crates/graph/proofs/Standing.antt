@@ -6,10 +6,10 @@ use mathlib.Core.Bool.{Bool, true, false, cond, not, _&&_, _||_, or-assoc, or-fa
 use mathlib.Core.List.{List, [], _∷_, _++_}
 use borrow.Author.Tests.{ltb-true, ltb-false, lt-ltb, le-ltb, eq-eqb, ne-eqb}
 use lib.ListN.{length, drop}
-use lib.Dec.{T, T-not, eqb, ltb, eqb-refl}
+use lib.Dec.{T, eqb, ltb}
 use Rattle.trace.specs.Lists.{someOf}
 use Rattle.trace.specs.Paths.{Edge, reaches, cyclic}
-use Rattle.trace.proofs.Tests.{by, by-same, T-of, and-left, or-and-self}
+use Rattle.trace.proofs.Tests.{by, by-same, or-and-self}
 use Rattle.trace.proofs.Lists.{Among, some-cons, some-same}
 use Rattle.trace.proofs.Closing.{reaches-goal, reaches-beyond, cyclic-goal}
 use Rattle.rows.specs.Bits.{has, marked, joined, cleared}
@@ -96,17 +96,13 @@ gathered-none w x = record {
   closes = refl;
 }
 
--- an edge goes to another transaction
-makes-other : (x y : Labelled) → makes y x ≡ true → y .transaction ≡ x .transaction → ⊥
-unfolding makes
-makes-other x y e same =
-    T-not (eqb (y .transaction) (x .transaction)) (and-left (not (eqb (y .transaction) (x .transaction))) (conflict (y .event) (x .event)) (T-of e))
-    (subst (λ k. T (eqb (y .transaction) k)) same (eqb-refl (y .transaction)))
-
 -- what makes an edge: another transaction, and a conflict
 pub makes-own : (x y : Labelled) → y .transaction ≡ x .transaction → makes y x ≡ false
 unfolding makes
 makes-own x y e = ap (λ b. not b && conflict (y .event) (x .event)) (eq-eqb (y .transaction) (x .transaction) e)
+
+makes-other : (x y : Labelled) → makes y x ≡ true → y .transaction ≡ x .transaction → ⊥
+makes-other x y e same = subst T (sym e ∙ makes-own x y same) tt
 
 pub makes-by : (x y : Labelled) (b : Bool) → (y .transaction ≡ x .transaction → ⊥) → b ≡ conflict (y .event) (x .event) → makes y x ≡ b
 unfolding makes

@@ -17,6 +17,7 @@ use Rattle.graph.specs.Edges.{edges}
 abbrev pub pastEnd : Event
 pastEnd = record { thread = 0; op = Read 0 0 }
 
+-- an event with its transaction
 abbrev pub labelledAs : ℕ → Event → Labelled
 labelledAs t e = record { transaction = t; event = e }
 
