@@ -1,4 +1,5 @@
 pub mod Clash
+pub mod Numbering
 pub mod Ends
 pub mod Sources
 pub mod Serializable

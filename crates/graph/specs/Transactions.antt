@@ -15,6 +15,9 @@ pub record Tally : Type 0 where
   pub current : List ℕ
   pub count : ℕ
 
+abbrev pub tallyOf : List ℕ → ℕ → Tally
+tallyOf current count = record { current = current; count = count }
+
 unfoldable pub none-yet : Tally
 none-yet = record { current = replicate 16 0; count = 0 }
 

@@ -1,27 +1,11 @@
+// The graph of transactions: when two operations conflict, and which transaction each belongs to.
+mod compare;
+mod tally;
+
+use record::Event;
 ghost use mathlib.Core.Path.{_≡_};
-ghost use Prim.Native.Nat.{_≤_};
-ghost use Rattle.graph.specs.Conflict.{code};
-
-// What is compared of two operations besides their threads, by the kind of the first and of the second.
-const TABLE: [[u8; 10]; 10] = [
-    [0, 1, 0, 0, 0, 0, 0, 3, 3, 0],
-    [1, 1, 0, 0, 0, 0, 0, 3, 3, 0],
-    [0, 0, 1, 1, 1, 1, 1, 3, 3, 0],
-    [0, 0, 1, 1, 1, 1, 1, 3, 3, 0],
-    [0, 0, 1, 1, 1, 1, 1, 3, 3, 0],
-    [0, 0, 1, 1, 1, 1, 1, 3, 3, 0],
-    [0, 0, 1, 1, 1, 1, 1, 3, 3, 0],
-    [2, 2, 2, 2, 2, 2, 2, 4, 5, 2],
-    [2, 2, 2, 2, 2, 2, 2, 5, 4, 2],
-    [0, 0, 0, 0, 0, 0, 0, 3, 3, 0],
-];
-
-pub fn code_of(k: usize, l: usize) -> u8
-    requires { ⌜ (1 ≤ k) × (k ≤ 10) × (1 ≤ l) × (l ≤ 10) ⌝ }
-    ensures { λ r. ⌜ r ≡ code k l ⌝ }
-{
-    TABLE[k - 1][l - 1]
-}
+ghost use Rattle.graph.specs.Conflict.{conflict};
+ghost use Rattle.graph.specs.Transactions.{tallyOf, numbered, counted};
 
 // What counting an operation finds: its transaction, or that it would begin a 513th.
 pub enum Numbered {
@@ -34,4 +18,49 @@ pub enum Arranged {
     Unfit,
     Ordered { transactions: usize },
     Cyclic { record: usize, length: usize },
+}
+
+// Whether two operations conflict: by their threads, else by what the table compares of their two kinds.
+pub fn conflicts(a: Event, b: Event) -> bool
+    ensures { λ r. ⌜ r ≡ conflict a b ⌝ }
+{
+    let t = a.thread;
+    let u = b.thread;
+    if t == u {
+        return true;
+    }
+    let p = a.op;
+    let q = b.op;
+    let kind = record::kind_of(p);
+    let x = record::target_of(p);
+    let y = record::target_of(q);
+    let code = compare::code_of(kind, record::kind_of(q));
+    match kind {
+        1..=7 => compare::touched(code, x, y, t),
+        8..=9 => compare::governed(code, x, y, t, u),
+        _ => compare::untouched(code, y, t),
+    }
+}
+
+// Counts an operation: the transaction that it belongs to, or that it would begin a 513th, and then nothing changes.
+// For each thread `current` has 0, where its next operation begins a transaction, or its current transaction and 1; `count` says how many have begun.
+pub fn number<'a>(current: &'a mut [u16; 16], count: &'a mut u16, e: Event) -> Numbered
+    ensures { λ r. ⌜ (let s = tallyOf (now (current .entry)) (now (count .entry)) in
+        (r ≡ numbered s e) × (tallyOf (now (current .exit)) (now (count .exit)) ≡ counted s e)) ⌝ }
+{
+    let t = e.thread;
+    let op = e.op;
+    let kind = record::kind_of(op);
+    let own = tally::entry(&*current, t);
+    if tally::begins(kind, own) {
+        let begun = *count;
+        if begun >= 512 {
+            return Numbered::Full;
+        }
+        tally::set_entry(&mut *current, t, tally::left(kind, begun + 1));
+        *count = begun + 1;
+        return Numbered::Of(begun);
+    }
+    tally::set_entry(&mut *current, t, tally::left(kind, own));
+    Numbered::Of(own - 1)
 }
