@@ -1,5 +1,6 @@
 // The graph of transactions: when two operations conflict, and which transaction each belongs to.
 mod compare;
+mod reach;
 mod tally;
 
 use record::Event;

@@ -1,0 +1,74 @@
+-- `graph::reach::spread` meets its contract: after d turns the first d rows are seen to.
+use borrow.Author.Needs.{needs}
+use Prim.Native.Nat.{ℕ, suc, _≤_, _-_}
+use native.Mathlib.Omega.{arith}
+use native.Mathlib.Numerals.{add-one}
+use mathlib.Core.Path.{_≡_, sym, _∙_, subst}
+use mathlib.Core.Logic.{⊎-elim}
+use mathlib.Core.List.{List}
+use Rattle.graph.proofs.Standing.{SpreadTo, spread-none, spread-all, spread-skip, spread-more}
+use Rattle.graph.proofs.reach.spread.Statement.{statement}
+use Rattle.graph.proofs.reach.spread.Tie as tie
+
+abbrev Inv-loop : tie.InvT-loop
+Inv-loop work₀ t d₀ work d = (d ≤ 512) × SpreadTo t work₀ d work
+
+abbrev μ-loop : tie.MeasureT-loop
+μ-loop work₀ t d₀ work d = 512 - d
+
+loop-holds : tie.Need-loop-holds Inv-loop μ-loop
+loop-holds c = (omega arith, spread-none (c .before .args .t) (c .before .args .work .now))
+
+test-requires : tie.Need-test-requires Inv-loop μ-loop
+test-requires c κs = search needs
+
+join-requires : tie.Need-join-requires Inv-loop μ-loop
+join-requires c κs = search needs
+
+add-d : tie.Need-add-d Inv-loop μ-loop
+add-d c = omega arith
+
+loop-less : tie.Need-loop-less Inv-loop μ-loop
+loop-less c = omega arith
+
+loop-again : tie.Need-loop-again Inv-loop μ-loop
+loop-again c =
+    let at = c .before .before .before .before .loop in
+    let a = c .before .before .before .before .before .before .args in
+    let w₀ : List ℕ = a .work .now in
+    let t : ℕ = a .t in (
+      omega arith,
+      subst (λ (n : ℕ). SpreadTo t w₀ n (c .if1 .work)) (sym (add-one (at .d)))
+          (⊎-elim
+          (λ w. subst (λ (l : List ℕ). SpreadTo t w₀ (suc (at .d)) l) (sym (w .5 ∙ w .2 .ensures))
+          (spread-more t w₀ (at .work) (at .d) (omega arith) (omega arith) (omega arith) (at .inv .1) (sym (c .before .test .ensures) ∙ w .0 .taken)))
+          (λ w. subst (λ (l : List ℕ). SpreadTo t w₀ (suc (at .d)) l) (sym (w .1))
+          (spread-skip t w₀ (at .work) (at .d) (omega arith) (omega arith) (omega arith) (at .inv .1) (sym (c .before .test .ensures) ∙ w .0 .left)))
+          (c .if1 .came)),
+    )
+
+same-length : tie.Need-same-length Inv-loop μ-loop
+same-length c = c .before .loop .inv .1 .kept .size
+
+returns : tie.Need-returns Inv-loop μ-loop
+returns c =
+    let at = c .before .loop in
+    let a = c .before .before .before .args in
+    let w₀ : List ℕ = a .work .now in
+    let e : at .d ≡ 512 = omega arith in
+    spread-all (a .t) w₀ (at .work) (subst (λ (n : ℕ). SpreadTo (a .t) w₀ n (at .work)) e (at .inv .1))
+
+pub spread-spec : {M : Type 1} → statement M
+spread-spec =
+    tie.close
+    (tie.spec
+    Inv-loop
+    μ-loop
+    loop-holds
+    test-requires
+    join-requires
+    add-d
+    loop-less
+    loop-again
+    same-length
+    returns)
