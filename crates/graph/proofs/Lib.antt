@@ -1,8 +1,8 @@
 pub mod Clash
 pub mod Ends
-pub mod Sources
-pub mod Serializable
+pub mod Numbers
 pub mod Labels
+pub mod Serializable
 pub mod Demand3
 pub mod Steps
 pub mod Round
