@@ -1,23 +1,22 @@
 -- Demand 3 holds of the promise: of every input, output and work area that are not refused.
-use Prim.Native.Nat.{ℕ, zero, suc, _+_, _*_, _/_, _%_, _≤_, _<_}
+use Prim.Native.Nat.{ℕ, zero, suc, _+_, _*_, _/_, _%_, _≤_}
 use native.Mathlib.Omega.{arith}
 use mathlib.Core.Path.{_≡_, refl, sym, ap, ap₂, _∙_, subst}
 use mathlib.Core.List.{List, [], _∷_, _++_, map}
 use lib.ListN.{length, drop, replicate, length-map}
 use lib.Dec.{T}
 use Rattle.record.specs.declared.Event.{Event}
-use Rattle.record.specs.declared.Decoded.{Decoded}
 use Rattle.record.specs.declared.Decoded.the-variants.{Good}
 use Rattle.record.specs.Record.{event, decoded, encoded, inTwo, inRange}
-use Rattle.replay.specs.Machine.{fresh, after, possible}
+use Rattle.replay.specs.Machine.{fresh, possible}
 use Rattle.trace.specs.Lists.{each, over}
-use Rattle.trace.specs.Paths.{Cycle, cyclic}
+use Rattle.trace.specs.Paths.{Cycle}
 use Rattle.trace.proofs.Lists.{Among, among-cons}
 use Rattle.trace.proofs.Swaps.{swaps-back, among-swaps, length-swaps}
 use Rattle.trace.proofs.Reach.{cycle-means, cycle-made}
 use Rattle.graph.specs.Conflict.{conflict}
 use Rattle.graph.specs.Arranged.{workSize}
-use Rattle.graph.specs.Swaps.{Swaps, Serial}
+use Rattle.graph.specs.Swaps.{Swaps}
 use Rattle.graph.specs.Serial.{serialTrace}
 use Rattle.graph.specs.Violation.{edgesUpTo, cyclicUpTo, shortest, transactionAt, cycleOf}
 use Rattle.graph.specs.Rule.{Reported}
@@ -25,7 +24,7 @@ use Rattle.graph.proofs.Clash.{conflict-sym}
 use Rattle.graph.proofs.Demand3.{cooperable-right, violation-right}
 use Rattle.graph.proofs.Round.{cycle-right}
 use Rattle.graph.proofs.Meaning.{shortest-cyclic, shortest-first}
-use Rattle.checker.specs.Verdict.{Numbers, Verdict, cooperable, violation, verdict}
+use Rattle.checker.specs.Verdict.{Verdict, cooperable, violation, verdict}
 use Rattle.checker.specs.Refusals.{records, recordsOf, refusal, events}
 use Rattle.checker.specs.Judged.{Judged, judged}
 use Rattle.checker.specs.Demand3.{numbersIn, Written, Violated, Trusted}

@@ -1,13 +1,12 @@
 -- A recording that is not refused: its records have no fault of form, and its events are a possible history.
-use Prim.Native.Nat.{ℕ, zero, suc, _+_, _-_, _*_, _/_, _%_, _≤_, _<_}
+use Prim.Native.Nat.{ℕ, zero, suc, _-_, _*_, _/_, _%_, _<_}
 use native.Mathlib.Omega.{arith}
 use mathlib.Core.Path.{_≡_, refl, sym, ap, _∙_, subst}
-use mathlib.Core.Bool.{Bool, true, false, not, _&&_}
+use mathlib.Core.Bool.{true, false, not}
 use mathlib.Core.List.{List, [], _∷_, _++_, map}
-use lib.ListN.{length, take, drop, length-drop}
+use lib.ListN.{length, drop, length-drop}
 use lib.Seq.{length-take-le}
 use lib.Dec.{T, eqb, leb, eqb→eq, eqb-refl}
-use Rattle.record.specs.declared.Event.{Event}
 use Rattle.record.specs.Faults.{Check, check, firstFault}
 use Rattle.record.specs.Record as Record
 use Rattle.record.specs.Record.{event}

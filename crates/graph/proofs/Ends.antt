@@ -117,3 +117,11 @@ has-pair (x ∷ xs) a b t = or-cases (someOf (isAt a b) (edgesOf x xs)) (someOf 
 
     lower : Together.Edge clash owner xs a b → Together.Edge clash owner (x ∷ xs) a b
     lower f = record { x = f .x; y = f .y; x-of = f .x-of; y-of = f .y-of; order = under (f .order); clash = f .clash; different = f .different }
+
+pub edge-has : (xs : List Labelled) (a b : ℕ) → Together.Edge clash owner xs a b → T (hasEdge (edges xs) a b)
+unfolding makes
+edge-has xs a b e =
+    let differ : T (not (eqb (e .x .transaction) (e .y .transaction))) =
+    not-T (eqb (e .x .transaction) (e .y .transaction)) (λ t. e .different (sym (e .x-of) ∙ eqb→eq (e .x .transaction) (e .y .transaction) t ∙ e .y-of)) in
+    subst (λ c. T (hasEdge (edges xs) c b)) (e .x-of) (subst (λ c. T (hasEdge (edges xs) (e .x .transaction) c)) (e .y-of)
+    (pair-has (e .x) (e .y) xs (e .order) (and-both (not (eqb (e .x .transaction) (e .y .transaction))) (clash (e .x) (e .y)) differ (e .clash))))

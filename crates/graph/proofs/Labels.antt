@@ -1,37 +1,26 @@
--- A swap of two neighbours of different threads exchanges their labels, but for the numbers of two transactions that both begin there.
-use Prim.Native.Nat.{ℕ, zero, suc, pred, _+_, _<_, _≤_}
+-- What swaps do to the numbers of transactions. A swap of two neighbours exchanges their labels, but for the numbers of two transactions that both begin
+-- there. So the labels of a trace that swaps reach are the labels of the recording, carried along by swaps and renamed.
+use Prim.Native.Nat.{ℕ, zero, suc, pred, _<_, _≤_}
 use native.Mathlib.Omega.{arith}
 use mathlib.Core.Path.{_≡_, refl, sym, ap, ap₂, _∙_, subst}
 use mathlib.Core.Logic.{_≢_}
-use mathlib.Core.Bool.{Bool, true, false, not, cond, _&&_, _||_}
-use mathlib.Core.List.{List, [], _∷_, _++_, map}
-use lib.ListN.{length, getD, set, replicate, List·getD-map}
-use lib.Seq.{getD-set-other, set-comm}
-use lib.Dec.{T, T-not, not-T, eqb, eqb→eq, eqb-refl, eqb·suc-zero}
+use mathlib.Core.Bool.{Bool, true, false, not, cond, _||_}
+use mathlib.Core.List.{List, [], _∷_, map}
+use lib.ListN.{getD, set, List·getD-map}
+use lib.Seq.{set-comm}
+use lib.Dec.{T, T-not, eqb, eqb→eq, eqb-refl, eqb·suc-zero}
 use Rattle.record.specs.declared.Event.{Event}
-use Rattle.graph.specs.Conflict.{joins}
-use Rattle.graph.specs.Transactions.{Tally, currentOf, begins, belongs, ends, tallied, Labelled, labelledFrom, labelled}
+use Rattle.trace.specs.Swaps.{Swap, Swaps}
+use Rattle.graph.specs.Conflict.{joins, conflict}
+use Rattle.graph.specs.Transactions.{Tally, none-yet, currentOf, begins, belongs, ends, tallied, Labelled, labelledFrom, labelled}
 use Rattle.trace.proofs.Tests.{by, T-of, T-is}
-use Rattle.graph.proofs.Serializable.{Sane, open-of, belongs-lt, count-rises, sane-tallied}
-
-module _ {A : Type 0} where
-  -- the neighbours at i and i + 1 exchanged
-  abbrev pub swapAt : ℕ → List A → List A
-  swapAt i [] = []
-  swapAt zero (a ∷ []) = a ∷ []
-  swapAt zero (a ∷ (b ∷ l)) = b ∷ (a ∷ l)
-  swapAt (suc i) (a ∷ l) = a ∷ swapAt i l
-
-pub map-swapAt : {A B : Type 0} (f : A → B) (i : ℕ) (l : List A) → map f (swapAt i l) ≡ swapAt i (map f l)
-map-swapAt f zero [] = refl
-map-swapAt f (suc i) [] = refl
-map-swapAt f zero (a ∷ []) = refl
-map-swapAt f zero (a ∷ (b ∷ l)) = refl
-map-swapAt f (suc i) (a ∷ l) = ap (λ r. f a ∷ r) (map-swapAt f i l)
-
-pub map-map : {A B C : Type 0} (g : B → C) (f : A → B) (l : List A) → map g (map f l) ≡ map (λ x. g (f x)) l
-map-map g f [] = refl
-map-map g f (a ∷ l) = ap (λ r. g (f a) ∷ r) (map-map g f l)
+use Rattle.trace.proofs.Lists.{map-map}
+use Rattle.trace.proofs.Swaps.{swaps-lift}
+use Rattle.graph.proofs.Clash.{conflict-own}
+use Rattle.graph.proofs.Ends.{clash}
+use Rattle.graph.proofs.Numbers.{Sane, sane-none, open-of, belongs-first, belongs-open, count-begun, count-unbegun, belongs-lt, count-rises, sane-tallied, current-other}
+use Rattle.trace.specs.Swaps.Swap.{first, later}
+use Rattle.trace.specs.Swaps.Swaps.{done, swap}
 
 map-set : {A B : Type 0} (f : A → B) (l : List A) (i : ℕ) (v : A) → map f (set l i v) ≡ set (map f l) i (f v)
 map-set f [] i v = refl
@@ -42,6 +31,9 @@ map-set f (x ∷ l) (suc i) v = ap (λ r. f x ∷ r) (map-set f l i v)
 abbrev hat : (ℕ → ℕ) → ℕ → ℕ
 hat π zero = zero
 hat π (suc k) = suc (π k)
+
+abbrev pub ev : Labelled → Event
+ev x = x .event
 
 abbrev pub rename : (ℕ → ℕ) → Labelled → Labelled
 rename π x = record { transaction = π (x .transaction); event = x .event }
@@ -134,54 +126,33 @@ module _ (c : ℕ) where
 
 -- ---- what a swap does to the labels
 
-pub record Turned (s : Tally) (i : ℕ) (es : List Event) : Type 0 where
-  pub π : ℕ → ℕ
-  pub one-one : (j k : ℕ) → π j ≡ π k → j ≡ k
-  pub old : (k : ℕ) → k < s .count → π k ≡ k
-  pub turned : labelledFrom s (swapAt i es) ≡ map (rename π) (swapAt i (labelledFrom s es))
+-- the labels of a trace are xs, renamed, and numbers that were there before have kept their names
+record Turned (s : Tally) (xs : List Labelled) (es : List Event) : Type 0 where
+  π : ℕ → ℕ
+  one-one : (j k : ℕ) → π j ≡ π k → j ≡ k
+  old : (k : ℕ) → k < s .count → π k ≡ k
+  turned : labelledFrom s es ≡ map (rename π) xs
 
 pub map-rename : (l : List Labelled) → map (rename (λ k. k)) l ≡ l
 map-rename [] = refl
 map-rename (x ∷ l) = ap (λ r. x ∷ r) (map-rename l)
 
-unmoved : (s : Tally) (i : ℕ) (es : List Event) → labelledFrom s (swapAt i es) ≡ swapAt i (labelledFrom s es) → Turned s i es
-unmoved s i es e = record { π = λ k. k; one-one = λ j k q. q; old = λ k h. refl; turned = e ∙ sym (map-rename (swapAt i (labelledFrom s es))) }
-
 module _ (s : Tally) (a b : Event) (apart : b .thread ≢ a .thread) where
-  current-other : currentOf (tallied s a) (b .thread) ≡ currentOf s (b .thread)
-  unfolding tallied
-  current-other = getD-set-other (s .current) (a .thread) (b .thread) (cond (ends a) 0 (suc (belongs s a))) 0 apart
-
   begins-other : begins (tallied s a) b ≡ begins s b
   unfolding begins
-  begins-other = ap (λ c. joins (b .op) || eqb c 0) current-other
-
-  count-begun : begins s a ≡ true → tallied s a .count ≡ suc (s .count)
-  unfolding tallied
-  count-begun e = ap (λ c. cond c (suc (s .count)) (s .count)) e
-
-  count-unbegun : begins s a ≡ false → tallied s a .count ≡ s .count
-  unfolding tallied
-  count-unbegun e = ap (λ c. cond c (suc (s .count)) (s .count)) e
+  begins-other = ap (λ c. joins (b .op) || eqb c 0) (current-other s a (b .thread) apart)
 
   belongs-begun : begins s b ≡ true → belongs (tallied s a) b ≡ tallied s a .count
-  unfolding belongs
-  belongs-begun e = ap (λ c. cond c (tallied s a .count) (pred (currentOf (tallied s a) (b .thread)))) (begins-other ∙ e)
+  belongs-begun e = belongs-first (tallied s a) b (begins-other ∙ e)
 
   -- b's label is the same behind a, unless both begin
+  belongs-still : (begins s b ≡ false) → belongs (tallied s a) b ≡ belongs s b
+  belongs-still e = belongs-open (tallied s a) b (begins-other ∙ e) ∙ ap pred (current-other s a (b .thread) apart) ∙ sym (belongs-open s b e)
+
   belongs-other : (begins s a ≡ false) → belongs (tallied s a) b ≡ belongs s b
-  unfolding belongs
-  belongs-other e = ap₂ (λ c n. cond c n (pred (currentOf (tallied s a) (b .thread)))) begins-other (count-unbegun e)
-      ∙ ap (λ p. cond (begins s b) (s .count) (pred p)) current-other
-
-  belongs-open : (begins s b ≡ false) → belongs (tallied s a) b ≡ belongs s b
-  unfolding belongs
-  belongs-open e = ap (λ c. cond c (tallied s a .count) (pred (currentOf (tallied s a) (b .thread)))) (begins-other ∙ e) ∙ ap pred current-other
-      ∙ sym (ap (λ c. cond c (s .count) (pred (currentOf s (b .thread)))) e)
-
-belongs-first : (s : Tally) (a : Event) → begins s a ≡ true → belongs s a ≡ s .count
-unfolding belongs
-belongs-first s a e = ap (λ c. cond c (s .count) (pred (currentOf s (a .thread)))) e
+  belongs-other e = by (begins s b)
+      (λ f. belongs-begun f ∙ count-unbegun s a e ∙ sym (belongs-first s b f))
+      (λ f. belongs-still f)
 
 bump : (x y : Bool) (n : ℕ) → cond x (suc (cond y (suc n) n)) (cond y (suc n) n) ≡ cond y (suc (cond x (suc n) n)) (cond x (suc n) n)
 bump true true n = refl
@@ -195,7 +166,10 @@ tally l n = record { current = l; count = n }
 abbrev label : ℕ → Event → Labelled
 label n e = record { transaction = n; event = e }
 
-module _ (s : Tally) (sane : Sane s) (a b : Event) (apart : b .thread ≢ a .thread) where
+module _ (s : Tally) (sane : Sane s) (a b : Event) (free : T (not (conflict a b))) where
+  apart : b .thread ≢ a .thread
+  apart e = T-not (conflict a b) free (conflict-own a b (sym e))
+
   apart′ : a .thread ≢ b .thread
   apart′ e = apart (sym e)
 
@@ -206,12 +180,22 @@ module _ (s : Tally) (sane : Sane s) (a b : Event) (apart : b .thread ≢ a .thr
       ∙ bump (begins s a) (begins s b) (s .count)
       ∙ sym (ap (λ c. cond c (suc (tallied s a .count)) (tallied s a .count)) (begins-other s a b apart))
 
+  -- the labels, with those of a and b exchanged
+  abbrev exchanged : List Event → List Labelled
+  exchanged es = label (belongs (tallied s a) b) b ∷ (label (belongs s a) a ∷ labelledFrom (tallied (tallied s a) b) es)
+
   -- where the labels of both are the same in either order, so is what follows
-  same-either : belongs (tallied s a) b ≡ belongs s b → belongs (tallied s b) a ≡ belongs s a → (es : List Event) → Turned s 0 (a ∷ (b ∷ es))
+  same-either : belongs (tallied s a) b ≡ belongs s b → belongs (tallied s b) a ≡ belongs s a → (es : List Event) → Turned s (exchanged es) (b ∷ (a ∷ es))
   unfolding labelledFrom tallied
-  same-either eb ea es = unmoved s 0 (a ∷ (b ∷ es))
-      (ap₂ (λ n l. label (belongs s b) b ∷ (label n a ∷ l)) ea (ap (λ t. labelledFrom t es) states)
-      ∙ ap (λ n. label n b ∷ (label (belongs s a) a ∷ labelledFrom (tallied (tallied s a) b) es)) (sym eb))
+  same-either eb ea es = record {
+    π = λ k. k;
+    one-one = λ j k q. q;
+    old = λ k h. refl;
+    turned =
+        ap₂ (λ n l. label (belongs s b) b ∷ (label n a ∷ l)) ea (ap (λ t. labelledFrom t es) states)
+        ∙ ap (λ n. label n b ∷ (label (belongs s a) a ∷ labelledFrom (tallied (tallied s a) b) es)) (sym eb)
+        ∙ sym (map-rename (exchanged es));
+  }
     where
       states : tallied (tallied s b) a ≡ tallied (tallied s a) b
       states = ap₂ tally
@@ -220,10 +204,8 @@ module _ (s : Tally) (sane : Sane s) (a b : Event) (apart : b .thread ≢ a .thr
           ∙ ap (λ n. set (set (s .current) (a .thread) (cond (ends a) 0 (suc (belongs s a)))) (b .thread) (cond (ends b) 0 (suc n))) (sym eb))
           counts-same
 
+  -- where both begin, their two numbers are exchanged from there on
   module _ (ba : begins s a ≡ true) (bb : begins s b ≡ true) where
-    c : ℕ
-    c = s .count
-
     first-a : belongs s a ≡ s .count
     first-a = belongs-first s a ba
 
@@ -231,10 +213,10 @@ module _ (s : Tally) (sane : Sane s) (a b : Event) (apart : b .thread ≢ a .thr
     first-b = belongs-first s b bb
 
     second-b : belongs (tallied s a) b ≡ suc (s .count)
-    second-b = belongs-begun s a b apart bb ∙ count-begun s a b apart ba
+    second-b = belongs-begun s a b apart bb ∙ count-begun s a ba
 
     second-a : belongs (tallied s b) a ≡ suc (s .count)
-    second-a = belongs-begun s b a apart′ ba ∙ count-begun s b a apart′ bb
+    second-a = belongs-begun s b a apart′ ba ∙ count-begun s b bb
 
     hat-cond : (x : Bool) (n m : ℕ) → τ (s .count) n ≡ m → hat (τ (s .count)) (cond x 0 (suc n)) ≡ cond x 0 (suc m)
     hat-cond true n m e = refl
@@ -256,9 +238,9 @@ module _ (s : Tally) (sane : Sane s) (a b : Event) (apart : b .thread ≢ a .thr
     }
       where
         both-count : tallied (tallied s a) b .count ≡ suc (suc (s .count))
-        both-count = count-begun (tallied s a) b a apart′ (begins-other s a b apart ∙ bb) ∙ ap suc (count-begun s a b apart ba)
+        both-count = count-begun (tallied s a) b (begins-other s a b apart ∙ bb) ∙ ap suc (count-begun s a ba)
 
-    both-turned : (es : List Event) → Turned s 0 (a ∷ (b ∷ es))
+    both-turned : (es : List Event) → Turned s (exchanged es) (b ∷ (a ∷ es))
     unfolding labelledFrom
     both-turned es = record {
       π = τ (s .count);
@@ -270,31 +252,79 @@ module _ (s : Tally) (sane : Sane s) (a b : Event) (apart : b .thread ≢ a .thr
           (relabel (τ (s .count)) (tallied (tallied s a) b) (tallied (tallied s b) a) states-renamed es));
     }
 
-  head-turned : (es : List Event) → Turned s 0 (a ∷ (b ∷ es))
+  head-turned : (es : List Event) → Turned s (exchanged es) (b ∷ (a ∷ es))
   head-turned es = by (begins s a)
       (λ ea. by (begins s b)
       (λ eb. both-turned ea eb es)
-      (λ eb. same-either (belongs-open s a b apart eb) (belongs-other s b a apart′ eb) es))
-      (λ ea. same-either (belongs-other s a b apart ea) (belongs-open s b a apart′ ea) es)
+      (λ eb. same-either (belongs-still s a b apart eb) (belongs-other s b a apart′ eb) es))
+      (λ ea. same-either (belongs-other s a b apart ea) (belongs-still s b a apart′ ea) es)
 
--- the events at i and i + 1, if there are two, are of different threads
-abbrev pub Differ : ℕ → List Event → Type 0
-Differ i [] = Unit {0}
-Differ zero (a ∷ []) = Unit {0}
-Differ zero (a ∷ (b ∷ es)) = b .thread ≢ a .thread
-Differ (suc i) (a ∷ es) = Differ i es
+-- the first two exchanged, the number of the first, and the rest
+abbrev swapTwo : List Labelled → List Labelled
+swapTwo [] = []
+swapTwo (x ∷ []) = x ∷ []
+swapTwo (x ∷ (y ∷ l)) = y ∷ (x ∷ l)
 
-pub turn : (s : Tally) → Sane s → (i : ℕ) (es : List Event) → Differ i es → Turned s i es
+abbrev number : List Labelled → ℕ
+number [] = 0
+number (x ∷ l) = x .transaction
+
+abbrev rest : List Labelled → List Labelled
+rest [] = []
+rest (x ∷ l) = l
+
+turn : (s : Tally) → Sane s → {xs zs : List Labelled} → Swap clash xs zs → (ρ : ℕ → ℕ) → labelledFrom s (map ev xs) ≡ map (rename ρ) xs → Turned s (map (rename ρ) zs) (map ev zs)
 unfolding labelledFrom
-turn s h zero [] d = unmoved s zero [] refl
-turn s h (suc i) [] d = unmoved s (suc i) [] refl
-turn s h zero (a ∷ []) d = unmoved s zero (a ∷ []) refl
-turn s h zero (a ∷ (b ∷ es)) d = head-turned s h a b d es
-turn s h (suc i) (e ∷ es) d =
-    let r : Turned (tallied s e) i es = turn (tallied s e) (sane-tallied s e h) i es d in
+turn s h (first {a = x} {b = y} {l} free) ρ q =
+    let r = head-turned s h (x .event) (y .event) free (map ev l) in
+    record { π = r .π; one-one = r .one-one; old = r .old; turned = r .turned ∙ ap (λ k. map (rename (r .π)) (swapTwo k)) q }
+turn s h (later {a = x} w) ρ q =
+    let e : Event = x .event in
+    let r = turn (tallied s e) (sane-tallied s e h) w ρ (ap rest q) in
     record {
       π = r .π;
       one-one = r .one-one;
       old = λ k g. r .old k (omega (arith, count-rises s e));
-      turned = ap₂ (λ n l. label n e ∷ l) (sym (r .old (belongs s e) (belongs-lt s e h))) (r .turned);
+      turned = ap₂ (λ n l. label n e ∷ l) (sym (r .old (belongs s e) (belongs-lt s e h)) ∙ ap (r .π) (ap number q)) (r .turned);
     }
+
+-- ---- what swaps do to the labels
+
+-- the labels of a trace are those of zs, renamed
+pub record Named (zs : List Labelled) : Type 0 where
+  pub ρ : ℕ → ℕ
+  pub one-one : (j k : ℕ) → ρ j ≡ ρ k → j ≡ k
+  pub is : labelled (map ev zs) ≡ map (rename ρ) zs
+
+named-swaps : {xs zs : List Labelled} → Swaps clash xs zs → Named xs → Named zs
+named-swaps done c = c
+named-swaps (swap {k} s r) c =
+    let t = turn none-yet sane-none s (c .ρ) (c .is) in
+    named-swaps r (record {
+      ρ = λ n. t .π (c .ρ n);
+      one-one = λ i j q. c .one-one i j (t .one-one (c .ρ i) (c .ρ j) q);
+      is = t .turned ∙ map-map (rename (t .π)) (rename (c .ρ)) k;
+    })
+
+pub labelled-events : (s : Tally) (es : List Event) → map ev (labelledFrom s es) ≡ es
+unfolding labelledFrom
+labelled-events s [] = refl
+labelled-events s (e ∷ es) = ap (λ r. e ∷ r) (labelled-events (tallied s e) es)
+
+-- a trace's own labels, carried along by swaps, are renamed
+pub named : (es : List Event) {zs : List Labelled} → Swaps clash (labelled es) zs → Named zs
+named es s = named-swaps s (record { ρ = λ n. n; one-one = λ j k q. q; is = ap labelled (labelled-events none-yet es) ∙ sym (map-rename (labelled es)) })
+
+-- the trace that swaps of events reach, with the labels carried along
+pub record Carried (es es′ : List Event) : Type 0 where
+  pub zs : List Labelled
+  pub swaps : Swaps clash (labelled es) zs
+  pub ρ : ℕ → ℕ
+  pub one-one : (j k : ℕ) → ρ j ≡ ρ k → j ≡ k
+  pub is : labelled es′ ≡ map (rename ρ) zs
+
+pub carried : {es es′ : List Event} → Swaps conflict es es′ → Carried es es′
+carried {es} s =
+    let m = swaps-lift ev conflict s (labelled es) (labelled-events none-yet es) in
+    let c = named es (m .1) in
+    record { zs = m .0; swaps = m .1; ρ = c .ρ; one-one = c .one-one; is = ap labelled (sym (m .2)) ∙ c .is }

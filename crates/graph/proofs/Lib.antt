@@ -1,9 +1,9 @@
 pub mod Clash
 pub mod Numbering
 pub mod Ends
-pub mod Sources
-pub mod Serializable
+pub mod Numbers
 pub mod Labels
+pub mod Serializable
 pub mod Demand3
 pub mod Steps
 pub mod Round

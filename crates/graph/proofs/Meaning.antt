@@ -1,38 +1,31 @@
 -- What the tests of the definitions mean, in document 01's words.
-use Prim.Native.Nat.{ℕ, zero, suc, _+_, _≤_, _<_, _-_}
+use Prim.Native.Nat.{ℕ, zero, suc, _≤_}
 use native.Mathlib.Omega.{arith}
 use native.Mathlib.Numerals.{one-add}
 use mathlib.Core.Path.{_≡_, refl, sym, ap, _∙_, subst}
-use mathlib.Core.Logic.{_≢_}
-use mathlib.Core.Bool.{Bool, true, false, not, _&&_}
+use mathlib.Core.Bool.{false}
 use mathlib.Core.List.{List, [], _∷_}
 use lib.ListN.{length, take}
-use lib.Dec.{T, not-T, eqb, eqb→eq}
+use lib.Dec.{T}
 use Rattle.record.specs.declared.Event.{Event}
-use Rattle.trace.specs.Lists.{someOf, firstOf, from}
+use Rattle.trace.specs.Lists.{someOf, from}
 use Rattle.trace.specs.Paths.{hasEdge, Path, Cycle, cyclic}
-use Rattle.trace.proofs.Tests.{by, T-of, and-both}
 use Rattle.trace.proofs.Together.{Edge}
 use Rattle.trace.proofs.Reach.{cycle-means, cycle-made}
-use Rattle.graph.specs.Conflict.{conflict}
 use Rattle.graph.specs.Transactions.{Labelled, none-yet, labelledFrom, labelled}
-use Rattle.graph.specs.Edges.{makes, edges}
+use Rattle.graph.specs.Edges.{edges}
 use Rattle.graph.specs.Violation.{edgesUpTo, cyclicUpTo, shortest}
-use Rattle.graph.proofs.Ends.{clash, owner, pair-has, has-pair}
-use Rattle.graph.proofs.Demand3.{edge-take, labelled-take, first-some, first-none}
-use Rattle.graph.proofs.Round.{Earliest, earliest}
+use Rattle.graph.proofs.Ends.{clash, owner, has-pair, edge-has}
+use Rattle.trace.proofs.Lists.{first-some, first-none, earliest}
+use Rattle.graph.proofs.Numbers.{labelled-take}
+use Rattle.graph.proofs.Demand3.{edge-take}
 
 -- There is an edge from A to a different B if an operation of A stands before, and conflicts with, one of B
 pub edge-means : (xs : List Labelled) (a b : ℕ) → T (hasEdge (edges xs) a b) → Edge clash owner xs a b
 edge-means = has-pair
 
 pub edge-made : (xs : List Labelled) (a b : ℕ) → Edge clash owner xs a b → T (hasEdge (edges xs) a b)
-unfolding makes
-edge-made xs a b e =
-    let differ : T (not (eqb (e .x .transaction) (e .y .transaction))) =
-    not-T (eqb (e .x .transaction) (e .y .transaction)) (λ t. e .different (sym (e .x-of) ∙ eqb→eq (e .x .transaction) (e .y .transaction) t ∙ e .y-of)) in
-    subst (λ c. T (hasEdge (edges xs) c b)) (e .x-of) (subst (λ c. T (hasEdge (edges xs) (e .x .transaction) c)) (e .y-of)
-    (pair-has (e .x) (e .y) xs (e .order) (and-both (not (eqb (e .x .transaction) (e .y .transaction))) (clash (e .x) (e .y)) differ (e .clash))))
+edge-made = edge-has
 
 -- A cycle of a prefix stays a cycle of every longer one
 path-stays : (j : ℕ) (xs : List Labelled) {a b : ℕ} → Path (edges (take j xs)) a b → Path (edges xs) a b

@@ -1,16 +1,16 @@
 -- The cycle that is reported follows the rule: from T along edges, each time to the lowest-numbered transaction that leads back, and to T. The walk
 -- never runs out, and never takes its default.
-use Prim.Native.Nat.{ℕ, zero, suc, pred, _+_, _<_, _≤_}
+use Prim.Native.Nat.{ℕ, zero, suc, _+_, _<_, _≤_}
 use native.Mathlib.Omega.{arith}
-use native.Mathlib.Nat.{add-zero, add-suc, suc-add}
-use mathlib.Core.Path.{_≡_, refl, sym, ap, ap₂, _∙_, subst}
+use mathlib.Core.Path.{_≡_, refl, sym, ap, _∙_, subst}
 use mathlib.Core.Logic.{_≢_}
-use mathlib.Core.Bool.{Bool, true, false, not, _&&_, _||_}
+use mathlib.Core.Bool.{Bool, true, false, not, _&&_}
 use mathlib.Core.List.{List, [], _∷_, _++_, map}
-use lib.ListN.{length, getD, take}
+use lib.ListN.{length, getD, take, List·getD-map}
 use lib.Seq.{take-suc}
 use lib.Dec.{T, T-not, not-T, eqb, eqb→eq, eqb-refl}
 use Rattle.record.specs.declared.Event.{Event}
+use Rattle.record.specs.declared.Op.the-variants.{Yield}
 use Rattle.trace.specs.Lists.{someOf, keep, firstOf, from, below}
 use Rattle.trace.specs.Paths.{Edge, hasEdge, Path, reaches, cyclic}
 use Rattle.graph.specs.Transactions.{Tally, none-yet, tallied, Labelled, labelledFrom, labelled, transactions}
@@ -18,13 +18,11 @@ use Rattle.graph.specs.Edges.{makes, edges}
 use Rattle.graph.specs.Rule.{Closes, Leads, Follows, Reported}
 use Rattle.graph.specs.Violation.{edgesUpTo, cyclicUpTo, shortest, transactionAt, closes, onward, walk, cycleOf}
 use Rattle.trace.proofs.Tests.{by, T-of, or-cases, and-left, and-right, and-both}
-use Rattle.trace.proofs.Lists.{Among, Before, among-cons, length-from, from-le, below-has, keep-has, count-all, some-has, Holds, some-at, among-length}
-use Rattle.trace.proofs.Reach.{Bounded, path-joined, sound, complete, edge-back}
+use Rattle.trace.proofs.Lists.{Among, first-of, second-of, length-from, below-has, keep-has, count-all, some-has, Holds, some-at, among-length, among-take, first-passes, first-least, first-some, Earliest, earliest}
+use Rattle.trace.proofs.Reach.{Bounded, path-joined, Over, sound, complete, edge-back}
 use Rattle.trace.proofs.Order.{ancestors, fewer}
-use Rattle.trace.proofs.Greedy.{Over}
 use Rattle.graph.proofs.Ends.{has-pair}
-use Rattle.graph.proofs.Serializable.{sane-none, labels-lt, bounded-edges}
-use Rattle.graph.proofs.Demand3.{among-take, labelled-take, first-true, first-false, first-some, blank, number-at}
+use Rattle.graph.proofs.Numbers.{sane-none, labels-lt, bounded-edges, labelled-take}
 use Rattle.graph.proofs.Steps.{among-first, among-end, edges-snoc}
 
 over-snoc : {g : List Edge} {a b c : ℕ} → Path g a b → T (hasEdge g b c) → Over g a c
@@ -38,34 +36,6 @@ over-strict : {g : List Edge} {a b : ℕ} → a ≢ b → Path g a b → Over g 
 over-strict d Path.here = absurd (d refl)
 over-strict d (Path.there {b} e p) = record { mid = b; edge = e; path = p }
 
--- the first that passes, where one does; of numbers in order, it is the lowest
-first-hit : (p : ℕ → Bool) (d y : ℕ) (l : List ℕ) → p y ≡ true → firstOf p d (y ∷ l) ≡ y
-unfolding firstOf
-first-hit p d y l e = rw (e, firstOf)
-
-first-miss : (p : ℕ → Bool) (d y : ℕ) (l : List ℕ) → p y ≡ false → firstOf p d (y ∷ l) ≡ firstOf p d l
-unfolding firstOf
-first-miss p d y l e = rw (e, firstOf)
-
-first-passes : (p : ℕ → Bool) (d x : ℕ) (l : List ℕ) → Among x l → T (p x) → T (p (firstOf p d l))
-first-passes p d x (y ∷ l) m t = by (p y)
-    (λ e. subst (λ z. T (p z)) (sym (first-hit p d y l e)) (T-of e))
-    (λ e. subst (λ z. T (p z)) (sym (first-miss p d y l e)) (first-passes p d x l (among-cons m (λ q. absurd (subst T (ap p q ∙ e) t)) (λ n. n)) t))
-
-first-least : (p : ℕ → Bool) (d s n x : ℕ) → Among x (from s n) → T (p x) → firstOf p d (from s n) ≤ x
-unfolding from
-first-least p d s (suc n) x m t = by (p s)
-    (λ e. omega (arith, first-hit p d s (from (suc s) n) e, from-le s (suc n) x m))
-    (λ e. omega (arith, first-miss p d s (from (suc s) n) e, first-least p d (suc s) n x (among-cons m (λ q. absurd (subst T (ap p q ∙ e) t)) (λ k. k)) t))
-
-first-among : {A : Type 0} {x y : A} {l : List A} → Before x y l → Among x l
-first-among (Before.now m) = Among.top
-first-among (Before.under b) = Among.deeper (first-among b)
-
-second-among : {A : Type 0} {x y : A} {l : List A} → Before x y l → Among y l
-second-among (Before.now m) = Among.deeper m
-second-among (Before.under b) = Among.deeper (second-among b)
-
 module _ (n : ℕ) (xs : List Labelled) (x : Labelled) (small : (y : Labelled) → Among y (xs ++ (x ∷ [])) → y .transaction < n) (acyclic : cyclic (edges xs) ≡ false) where
   abbrev t : ℕ
   t = x .transaction
@@ -78,7 +48,7 @@ module _ (n : ℕ) (xs : List Labelled) (x : Labelled) (small : (y : Labelled) �
 
   ends : (a b : ℕ) → T (hasEdge h a b) → (a < n) × (b < n) × (a ≢ b)
   ends a b e = let p = has-pair (xs ++ (x ∷ [])) a b e in
-      (subst (λ k. k < n) (p .x-of) (small (p .x) (first-among (p .order))), subst (λ k. k < n) (p .y-of) (small (p .y) (second-among (p .order))), p .different)
+      (subst (λ k. k < n) (p .x-of) (small (p .x) (first-of (p .order))), subst (λ k. k < n) (p .y-of) (small (p .y) (second-of (p .order))), p .different)
 
   -- an edge that does not go to t was there before
   old-edge : (a b : ℕ) → T (hasEdge h a b) → b ≢ t → T (hasEdge (edges xs) a b)
@@ -197,25 +167,12 @@ unfolding labelledFrom
 labelled-length s [] = refl
 labelled-length s (e ∷ es) = ap suc (labelled-length (tallied s e) es)
 
-pub record Earliest (p : ℕ → Bool) (s m k : ℕ) : Type 0 where
-  pub inside : k < s + m
-  pub none : (j : ℕ) → s ≤ j → j < k → p j ≡ false
+-- what stands for a record past the end
+abbrev blank : Labelled
+blank = record { transaction = 0; event = record { thread = 0; op = Yield } }
 
-pub earliest : (p : ℕ → Bool) (s m k : ℕ) → firstOf p 0 (from s m) ≡ suc k → Earliest p s m (suc k)
-unfolding firstOf from
-earliest p s zero k e = absurd (omega (arith, e))
-earliest p s (suc m) k e = by (p s)
-    (λ q. let r : s ≡ suc k = sym (first-true p s (from (suc s) m) q) ∙ e in record { inside = omega arith; none = λ j a b. absurd (omega arith) })
-    (λ q. let r : Earliest p (suc s) m (suc k) = earliest p (suc s) m k (sym (first-false p s (from (suc s) m) q) ∙ e) in
-    record {
-      inside = omega (arith, r .inside);
-      none = λ j a b. by (eqb s j)
-          (λ z. subst (λ i. p i ≡ false) (eqb→eq s j (T-of z)) q)
-          (λ z. r .none j (above s j a (λ w. subst T z (subst (λ i. T (eqb s i)) w (eqb-refl s)))) b);
-    })
-  where
-    above : (s j : ℕ) → s ≤ j → s ≢ j → suc s ≤ j
-    above s j a d = omega arith
+number-at : (xs : List Labelled) (i : ℕ) → getD (map (λ x. x .transaction) xs) i 0 ≡ getD xs i blank .transaction
+number-at xs i = List·getD-map (λ x. x .transaction) xs i blank
 
 -- The cycle that is reported is a cycle of edges of the prefix, from the transaction of its last record on, chosen by the rule
 pub cycle-right : (es : List Event) (k : ℕ) → shortest es ≡ suc k → Reported (edgesUpTo es (suc k)) (transactionAt es k) (cycleOf es (suc k))

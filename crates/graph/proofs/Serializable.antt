@@ -1,227 +1,83 @@
--- Demand 3, of the definitions: a possible recording whose edges have no cycle is turned into its serial trace by swaps.
-use Prim.Native.Nat.{ℕ, zero, suc, pred, _+_, _<_, _≤_}
-use native.Mathlib.Omega.{arith}
+-- The serial trace is the one that the greedy order gives, whatever names its transactions have: zs is the run of operations with other labels, and ρ takes
+-- those to the run's own.
+use Prim.Native.Nat.{ℕ}
 use mathlib.Core.Path.{_≡_, refl, sym, ap, ap₂, _∙_, subst}
-use mathlib.Core.Bool.{Bool, true, false, not, cond, _&&_, _||_, and-false}
+use mathlib.Core.Bool.{true, false}
 use mathlib.Core.List.{List, [], _∷_, _++_, map}
-use lib.ListN.{length, getD, set, replicate}
-use lib.Dec.{T, T-not, not-T, eqb, eqb→eq, eqb-refl}
+use lib.Dec.{eqb}
 use Rattle.record.specs.declared.Event.{Event}
-use Rattle.trace.specs.Lists.{someOf, keep, each, member, below}
-use Rattle.trace.specs.Swaps.{Swap, Swaps}
-use Rattle.trace.specs.Paths.{Edge, cyclic}
-use Rattle.trace.specs.Order.{available, lowest, taking}
-use Rattle.graph.specs.Conflict.{joins, conflict}
-use Rattle.graph.specs.Transactions.{Tally, none-yet, currentOf, begins, belongs, ends, tallied, Labelled, labelledFrom, labelled, tallyFrom, transactions}
-use Rattle.graph.specs.Edges.{makes, edgesOf, edges}
-use Rattle.graph.specs.Serial.{eventsOf, serialOrder, serialTrace, threadOf}
-use Rattle.trace.proofs.Tests.{by, T-of, T-is, or-right}
-use Rattle.trace.proofs.Lists.{Among, keep-true, keep-false, keep-among, keep-same, keep-keep, keep-all, count-all, among-cons, length-from}
-use Rattle.trace.proofs.Together.{owned, left, blocks, blocks-swaps, Stand, blocks-stand}
-use Rattle.trace.proofs.Reach.{Bounded}
-use Rattle.trace.proofs.Order.{untaken, taking-nil, taking-cons, lowest-among}
-use Rattle.graph.proofs.Ends.{clash}
-use Rattle.graph.proofs.Sources.{rest-cons, free-untaken, order-sources}
-use Rattle.trace.specs.Swaps.Swap.{first, later}
-use Rattle.trace.specs.Swaps.Swaps.{done, swap}
+use Rattle.trace.specs.Lists.{keep, each}
+use Rattle.trace.specs.Swaps.{Together}
+use Rattle.trace.specs.Paths.{cyclic}
+use Rattle.graph.specs.Transactions.{Labelled, labelled, transactions}
+use Rattle.graph.specs.Swaps.{Serial}
+use Rattle.graph.specs.Edges.{edges}
+use Rattle.graph.specs.Serial.{eventsOf, threadOf, serialOrder, serialTrace}
+use Rattle.trace.proofs.Tests.{by}
+use Rattle.trace.proofs.Lists.{Among, keep-true, keep-false, map-append, map-map, among-map, among-unmap}
+use Rattle.trace.proofs.Together.{Edge, Stand, stand-together, together-stand, edge-map, edge-unmap}
+use Rattle.trace.proofs.Greedy.{Greedy, greedy-same, Direct, order-greedy}
+use Rattle.trace.proofs.Serial.{arranged, Owned}
+use Rattle.graph.proofs.Ends.{clash, owner, has-pair, edge-has}
+use Rattle.graph.proofs.Numbers.{bounded-edges, threadIn, clash-sym, clash-own, owned}
+use Rattle.graph.proofs.Labels.{ev, rename}
 
--- ---- labels are below the number of transactions
-
-abbrev pub Sane : Tally → Type 0
-Sane s = (t : ℕ) → currentOf s t ≤ s .count
-
-zeros : (n t : ℕ) → getD (replicate n 0) t 0 ≤ 0
-zeros zero t = omega arith
-zeros (suc n) zero = omega arith
-zeros (suc n) (suc t) = zeros n t
-
-set-le : (l : List ℕ) (i v m : ℕ) → v ≤ m → ((j : ℕ) → getD l j 0 ≤ m) → (j : ℕ) → getD (set l i v) j 0 ≤ m
-set-le [] i v m hv h j = h j
-set-le (x ∷ l) zero v m hv h zero = hv
-set-le (x ∷ l) zero v m hv h (suc j) = h (suc j)
-set-le (x ∷ l) (suc i) v m hv h zero = h zero
-set-le (x ∷ l) (suc i) v m hv h (suc j) = set-le l i v m hv (λ k. h (suc k)) j
-
-pub sane-none : Sane none-yet
-unfolding none-yet
-sane-none t = zeros 16 t
-
-eqb-zero : (n : ℕ) → eqb n 0 ≡ false → 0 < n
-eqb-zero zero e = absurd (subst T e (eqb-refl 0))
-eqb-zero (suc n) e = omega arith
-
-pub open-of : (s : Tally) (e : Event) → begins s e ≡ false → eqb (currentOf s (e .thread)) 0 ≡ false
-unfolding begins
-open-of s e b = by (eqb (currentOf s (e .thread)) 0) (λ c. absurd (subst T b (or-right (joins (e .op)) (eqb (currentOf s (e .thread)) 0) (T-of c)))) (λ c. c)
-
--- the number of an operation's transaction is below the number of those begun
-pub belongs-lt : (s : Tally) (e : Event) → Sane s → belongs s e < tallied s e .count
-unfolding belongs tallied begins
-belongs-lt s e h = by (begins s e)
-    (λ b. let u : belongs s e ≡ s .count = ap (λ c. cond c (s .count) (pred (currentOf s (e .thread)))) b in
-    let v : tallied s e .count ≡ suc (s .count) = ap (λ c. cond c (suc (s .count)) (s .count)) b in omega arith)
-    (λ b. let u : belongs s e ≡ pred (currentOf s (e .thread)) = ap (λ c. cond c (s .count) (pred (currentOf s (e .thread)))) b in
-    let v : tallied s e .count ≡ s .count = ap (λ c. cond c (suc (s .count)) (s .count)) b in
-    let z : 0 < currentOf s (e .thread) = eqb-zero (currentOf s (e .thread)) (open-of s e b) in
-    omega (arith, h (e .thread)))
-
-pub count-rises : (s : Tally) (e : Event) → s .count ≤ tallied s e .count
-unfolding tallied
-count-rises s e = by (begins s e)
-    (λ b. omega (arith, ap (λ c. cond c (suc (s .count)) (s .count)) b))
-    (λ b. omega (arith, ap (λ c. cond c (suc (s .count)) (s .count)) b))
-
-pub sane-tallied : (s : Tally) (e : Event) → Sane s → Sane (tallied s e)
-unfolding tallied
-sane-tallied s e h =
-    set-le (s .current) (e .thread) (cond (ends e) 0 (suc (belongs s e))) (tallied s e .count)
-    (by (ends e)
-    (λ b. omega (arith, ap (λ c. cond c 0 (suc (belongs s e))) b))
-    (λ b. omega (arith, ap (λ c. cond c 0 (suc (belongs s e))) b, belongs-lt s e h)))
-    (λ j. omega (arith, h j, count-rises s e))
-
-tally-rises : (s : Tally) (es : List Event) → s .count ≤ tallyFrom s es .count
-unfolding tallyFrom
-tally-rises s [] = omega arith
-tally-rises s (e ∷ es) = omega (arith, count-rises s e, tally-rises (tallied s e) es)
-
-pub labels-lt : (s : Tally) (es : List Event) → Sane s → (x : Labelled) → Among x (labelledFrom s es) → x .transaction < tallyFrom s es .count
-unfolding tallyFrom labelledFrom
-labels-lt s [] h x m = none m
-  where
-    none : Among x [] → x .transaction < s .count
-    none = elim [ ]
-labels-lt s (e ∷ es) h x m = among-cons m
-    (λ q. omega (arith, ap (λ y. y .transaction) q, belongs-lt s e h, tally-rises (tallied s e) es))
-    (λ n. labels-lt (tallied s e) es (sane-tallied s e h) x n)
-
-bounded-append : (n : ℕ) (u v : List Edge) → Bounded n u → Bounded n v → Bounded n (u ++ v)
-bounded-append n [] v a b = b
-bounded-append n (e ∷ u) v a b = (a .0, a .1, bounded-append n u v (a .2) b)
-
-bounded-of : (n : ℕ) (x : Labelled) (ys : List Labelled) → x .transaction < n → ((y : Labelled) → Among y ys → y .transaction < n) → Bounded n (edgesOf x ys)
-unfolding edgesOf
-bounded-of n x [] hx h = tt
-bounded-of n x (y ∷ ys) hx h = by (makes x y)
-    (λ e. subst (Bounded n) (sym (of-true e)) (hx, h y Among.top, bounded-of n x ys hx (λ z m. h z (Among.deeper m))))
-    (λ e. subst (Bounded n) (sym (of-false e)) (bounded-of n x ys hx (λ z m. h z (Among.deeper m))))
-  where
-    of-true : makes x y ≡ true → edgesOf x (y ∷ ys) ≡ record { origin = x .transaction; goal = y .transaction } ∷ edgesOf x ys
-    of-true e = rw (e, edgesOf)
-
-    of-false : makes x y ≡ false → edgesOf x (y ∷ ys) ≡ edgesOf x ys
-    of-false e = rw (e, edgesOf)
-
-pub bounded-edges : (n : ℕ) (xs : List Labelled) → ((y : Labelled) → Among y xs → y .transaction < n) → Bounded n (edges xs)
-unfolding edges
-bounded-edges n [] h = tt
-bounded-edges n (x ∷ xs) h = bounded-append n (edgesOf x xs) (edges xs) (bounded-of n x xs (h x Among.top) (λ y m. h y (Among.deeper m))) (bounded-edges n xs (λ y m. h y (Among.deeper m)))
-
--- ---- the serial trace
-
-module _ {A B : Type 0} (f : A → B) (c : B → B → Bool) where
-  swap-map : {l k : List A} → Swap (λ x y. c (f x) (f y)) l k → Swap c (map f l) (map f k)
-  swap-map (first n) = first n
-  swap-map (later s) = later (swap-map s)
-
-  pub swaps-map : {l k : List A} → Swaps (λ x y. c (f x) (f y)) l k → Swaps c (map f l) (map f k)
-  swaps-map done = done
-  swaps-map (swap s r) = swap (swap-map s) (swaps-map r)
-
-  map-append : (u v : List A) → map f (u ++ v) ≡ map f u ++ map f v
-  map-append [] v = refl
-  map-append (x ∷ u) v = ap (λ r. f x ∷ r) (map-append u v)
-
-abbrev ev : Labelled → Event
-ev x = x .event
-
-pub labelled-events : (s : Tally) (es : List Event) → map ev (labelledFrom s es) ≡ es
-unfolding labelledFrom
-labelled-events s [] = refl
-labelled-events s (e ∷ es) = ap (λ r. e ∷ r) (labelled-events (tallied s e) es)
-
-events-of : (xs : List Labelled) (a : ℕ) → eventsOf xs a ≡ map ev (keep (λ x. eqb (x .transaction) a) xs)
+-- the events of a transaction
+events-of : (ρ : ℕ → ℕ) (zs : List Labelled) (a : ℕ) → eventsOf (map (rename ρ) zs) a ≡ map ev (keep (λ x. eqb (ρ (x .transaction)) a) zs)
 unfolding eventsOf keep
-events-of [] a = refl
-events-of (x ∷ xs) a = by (eqb (x .transaction) a)
-    (λ e. of-true e ∙ ap (λ r. x .event ∷ r) (events-of xs a) ∙ sym (ap (map ev) (keep-true (λ x. eqb (x .transaction) a) x xs e)))
-    (λ e. of-false e ∙ events-of xs a ∙ sym (ap (map ev) (keep-false (λ x. eqb (x .transaction) a) x xs e)))
+events-of ρ [] a = refl
+events-of ρ (x ∷ zs) a = by (eqb (ρ (x .transaction)) a)
+    (λ e. yes e ∙ ap (λ r. x .event ∷ r) (events-of ρ zs a) ∙ sym (ap (map ev) (keep-true (λ x. eqb (ρ (x .transaction)) a) x zs e)))
+    (λ e. no-more e ∙ events-of ρ zs a ∙ sym (ap (map ev) (keep-false (λ x. eqb (ρ (x .transaction)) a) x zs e)))
   where
-    of-true : eqb (x .transaction) a ≡ true → eventsOf (x ∷ xs) a ≡ x .event ∷ eventsOf xs a
-    of-true e = rw (e, eventsOf)
+    yes : eqb (ρ (x .transaction)) a ≡ true → eventsOf (map (rename ρ) (x ∷ zs)) a ≡ x .event ∷ eventsOf (map (rename ρ) zs) a
+    yes e = rw (e, eventsOf)
 
-    of-false : eqb (x .transaction) a ≡ false → eventsOf (x ∷ xs) a ≡ eventsOf xs a
-    of-false e = rw (e, eventsOf)
+    no-more : eqb (ρ (x .transaction)) a ≡ false → eventsOf (map (rename ρ) (x ∷ zs)) a ≡ eventsOf (map (rename ρ) zs) a
+    no-more e = rw (e, eventsOf)
 
-module _ (n : ℕ) (xs : List Labelled) (small : (x : Labelled) → Among x xs → x .transaction < n)
-    (bounded : Bounded n (edges xs)) (acyclic : cyclic (edges xs) ≡ false) where
-  abbrev rest : List ℕ → List Labelled
-  rest taken = keep (λ x. untaken taken (x .transaction)) xs
+events-of-all : (ρ : ℕ → ℕ) (zs : List Labelled) (order : List ℕ) → each (eventsOf (map (rename ρ) zs)) order ≡ map ev (arranged (λ x. ρ (x .transaction)) order zs)
+unfolding each
+events-of-all ρ zs [] = refl
+events-of-all ρ zs (a ∷ order) =
+    ap₂ (λ u v. u ++ v) (events-of ρ zs a) (events-of-all ρ zs order)
+    ∙ sym (map-append ev (keep (λ x. eqb (ρ (x .transaction)) a) zs) (arranged (λ x. ρ (x .transaction)) order zs))
 
-  abbrev tx : Labelled → ℕ
-  tx x = x .transaction
+module _ (es : List Event) (ρ : ℕ → ℕ) (zs : List Labelled) (is : labelled es ≡ map (rename ρ) zs) where
+  abbrev pub name : Labelled → ℕ
+  name x = ρ (x .transaction)
 
-  block-is : (c : ℕ) (taken : List ℕ) → T (untaken taken c) → keep (owned clash tx c) (rest taken) ≡ keep (λ x. eqb (x .transaction) c) xs
-  block-is c taken t =
-      keep-keep (λ x. eqb (x .transaction) c) (λ x. untaken taken (x .transaction)) xs
-      ∙ keep-same (λ x. untaken taken (x .transaction) && eqb (x .transaction) c) (λ x. eqb (x .transaction) c) xs
-      (λ x m. by (eqb (x .transaction) c)
-      (λ e. ap (λ b. b && eqb (x .transaction) c) (T-is (untaken taken (x .transaction)) (subst (λ d. T (untaken taken d)) (sym (eqb→eq (x .transaction) c (T-of e))) t)))
-      (λ e. ap (λ b. untaken taken (x .transaction) && b) e ∙ and-false (untaken taken (x .transaction)) ∙ sym e))
+  -- the serial trace is what the serial order gives
+  pub trace-is : serialTrace es ≡ map ev (arranged name (serialOrder es) zs)
+  unfolding serialTrace
+  trace-is = ap (λ l. each (eventsOf l) (serialOrder es)) is ∙ events-of-all ρ zs (serialOrder es)
 
-  -- each is taken once
-  abbrev Fresh : List ℕ → List ℕ → Type 0
-  Fresh [] taken = Unit {0}
-  Fresh (a ∷ order) taken = T (untaken taken a) × Fresh order (a ∷ taken)
+  -- the serial order is greedy, where there is no cycle
+  pub order-is : cyclic (edges (labelled es)) ≡ false → Greedy (transactions es) (Edge clash name zs) (threadOf (labelled es)) [] (serialOrder es)
+  unfolding serialOrder
+  order-is acyclic =
+      greedy-same (transactions es) (Direct (edges (labelled es))) (Edge clash name zs)
+      (λ a b h. edge-unmap (rename ρ) clash owner zs (subst (λ l. Edge clash owner l a b) is (has-pair (labelled es) a b h)))
+      (λ a b e. edge-has (labelled es) a b (subst (λ l. Edge clash owner l a b) (sym is) (edge-map (rename ρ) clash owner zs e)))
+      (threadOf (labelled es)) [] (serialOrder es)
+      (order-greedy (transactions es) (threadOf (labelled es)) (edges (labelled es)) (bounded-edges (transactions es) (labelled es) (owned es .small)) acyclic)
 
-  order-fresh : (k : ℕ) (taken : List ℕ) → Fresh (taking n (threadOf xs) (edges xs) k taken) taken
-  unfolding taking
-  order-fresh zero taken = tt
-  order-fresh (suc k) taken = go (order-fresh k) (keep (available n (threadOf xs) (edges xs) taken) (below n)) refl
-    where
-      go : ((taken : List ℕ) → Fresh (taking n (threadOf xs) (edges xs) k taken) taken) → (av : List ℕ) → keep (available n (threadOf xs) (edges xs) taken) (below n) ≡ av → Fresh (taking n (threadOf xs) (edges xs) (suc k) taken) taken
-      go again [] e = subst (λ o. Fresh o taken) (sym (taking-nil n (threadOf xs) (edges xs) taken k e)) tt
-      go again (a ∷ bs) e =
-          let c : ℕ = lowest n (threadOf xs) (edges xs) bs a in
-          let m : Among c (keep (available n (threadOf xs) (edges xs) taken) (below n)) = subst (λ l. Among c l) (sym e) (lowest-among n (threadOf xs) (edges xs) taken k bs a) in
-          subst (λ o. Fresh o taken) (sym (taking-cons n (threadOf xs) (edges xs) taken k a bs e))
-          (free-untaken n xs small bounded acyclic c taken (keep-among (available n (threadOf xs) (edges xs) taken) c (below n) m .1), again (c ∷ taken))
+  -- its transactions have operations, each of one thread
+  pub owned-is : Owned clash threadIn clash-sym clash-own name (transactions es) (threadOf (labelled es)) zs
+  owned-is = record {
+    small = λ x m. owned es .small (rename ρ x) (subst (λ l. Among (rename ρ x) l) (sym is) (among-map (rename ρ) m));
+    some = λ a h. let y = owned es .some a h in
+        let x = among-unmap (rename ρ) (y .0) zs (subst (λ l. Among (y .0) l) is (y .1)) in
+        (x .0, x .1, ap owner (x .2) ∙ y .2);
+    one-thread = λ x m. owned es .one-thread (rename ρ x) (subst (λ l. Among (rename ρ x) l) (sym is) (among-map (rename ρ) m));
+  }
 
-  blocks-each : (order taken : List ℕ) → Fresh order taken → map ev (blocks clash tx order (rest taken)) ≡ each (eventsOf xs) order
-  unfolding each
-  blocks-each [] taken f = refl
-  blocks-each (a ∷ order) taken f =
-      map-append ev conflict (keep (owned clash tx a) (rest taken)) (blocks clash tx order (left clash tx a (rest taken)))
-      ∙ ap₂ (λ u v. u ++ v)
-      (ap (map ev) (block-is a taken (f .0)) ∙ sym (events-of xs a))
-      (ap (λ l. map ev (blocks clash tx order l)) (rest-cons n xs small bounded acyclic a taken) ∙ blocks-each order (a ∷ taken) (f .1))
+  -- it is serial exactly if its transactions' operations stand together
+  numbers-are : map (λ x. x .transaction) (labelled es) ≡ map name zs
+  numbers-are = ap (map (λ x. x .transaction)) is ∙ map-map (λ x. x .transaction) (rename ρ) zs
 
-  rest-all : rest [] ≡ xs
-  unfolding member someOf
-  rest-all = keep-all (λ x. untaken [] (x .transaction)) xs (λ x m. refl)
+  pub serial-stands : Serial es → Stand clash name zs
+  serial-stands s = together-stand clash name zs (subst Together numbers-are s)
 
-  -- the labelled events, one transaction after the other
-  pub labelled-serial : (zs : List Labelled) × Swaps clash xs zs × Stand clash tx zs × (map ev zs ≡ each (eventsOf xs) (taking n (threadOf xs) (edges xs) n []))
-  labelled-serial =
-      let order : List ℕ = taking n (threadOf xs) (edges xs) n [] in
-      let s : Swaps clash (rest []) (blocks clash tx order (rest [])) =
-      blocks-swaps clash tx order (rest []) (order-sources n xs small bounded acyclic n [] (omega (arith, count-all (untaken []) (below n), length-from 0 n))) in (
-        blocks clash tx order (rest []),
-        subst (λ l. Swaps clash l (blocks clash tx order (rest []))) rest-all s,
-        blocks-stand clash tx order (rest []),
-        blocks-each order [] (order-fresh n []),
-      )
-
-pub serial-blocks : (es : List Event) → cyclic (edges (labelled es)) ≡ false
-    → (zs : List Labelled) × Swaps clash (labelled es) zs × Stand clash (λ x. x .transaction) zs × (map ev zs ≡ serialTrace es)
-unfolding serialTrace serialOrder transactions
-serial-blocks es acyclic =
-    let small : (x : Labelled) → Among x (labelled es) → x .transaction < transactions es = labels-lt none-yet es sane-none in
-    labelled-serial (transactions es) (labelled es) small (bounded-edges (transactions es) (labelled es) small) acyclic
-
--- A recording without a cycle of edges is turned into its serial trace by swaps
-pub serial-by-swaps : (es : List Event) → cyclic (edges (labelled es)) ≡ false → Swaps conflict es (serialTrace es)
-serial-by-swaps es acyclic =
-    let b = serial-blocks es acyclic in
-    subst (λ l. Swaps conflict l (serialTrace es)) (labelled-events none-yet es)
-    (subst (λ k. Swaps conflict (map ev (labelled es)) k) (b .3) (swaps-map ev conflict (b .1)))
+  pub stands-serial : Stand clash name zs → Serial es
+  stands-serial s = subst Together (sym numbers-are) (stand-together clash name zs s)

@@ -7,3 +7,4 @@ pub mod Closing
 pub mod Order
 pub mod Greedy
 pub mod Moved
+pub mod Serial

@@ -4,11 +4,11 @@ use native.Mathlib.Omega.{arith}
 use native.Mathlib.Nat.{add-zero, zero-add, add-suc, suc-add, le-of-suc-le-suc, not-suc-le-zero}
 use mathlib.Core.Path.{_≡_, refl, sym, ap, ap₂, _∙_, subst}
 use mathlib.Core.Logic.{_≢_}
-use mathlib.Core.Bool.{Bool, true, false, not, cond, _&&_, _||_}
-use mathlib.Core.List.{List, [], _∷_, _++_, cons≢nil}
-use lib.ListN.{length}
-use lib.Dec.{T, T-not, not-T, eqb, ltb, eqb→eq, eqb-refl}
-use Rattle.trace.specs.Lists.{someOf, allOf, keep, from, below}
+use mathlib.Core.Bool.{Bool, true, false, _&&_, _||_}
+use mathlib.Core.List.{List, [], _∷_, _++_, map}
+use lib.ListN.{length, take}
+use lib.Dec.{T, eqb, eqb→eq, eqb-refl}
+use Rattle.trace.specs.Lists.{someOf, allOf, keep, firstOf, member, from, below}
 use Rattle.trace.proofs.Tests.{by, T-of, T-is, or-cases, or-left, or-right}
 
 -- b is one of a list; an a stands before a b
@@ -38,9 +38,29 @@ some-cons p x l = go (p x)
     go true = refl
     go false = refl
 
+pub member-cons : (a c : ℕ) (taken : List ℕ) → member a (c ∷ taken) ≡ (eqb a c || member a taken)
+unfolding member
+member-cons a c taken = some-cons (eqb a) c taken
+
 pub among-cons {ℓ} : {A : Type 0} {C : Type ℓ} {x y : A} {l : List A} → Among x (y ∷ l) → (x ≡ y → C) → (Among x l → C) → C
 among-cons Among.top f g = f refl
 among-cons (Among.deeper m) f g = g m
+
+-- the first and the second of a pair, one before the other
+pub first-of : {A : Type 0} {x y : A} {l : List A} → Before x y l → Among x l
+first-of (Before.now m) = Among.top
+first-of (Before.under b) = Among.deeper (first-of b)
+
+pub second-of : {A : Type 0} {x y : A} {l : List A} → Before x y l → Among y l
+second-of (Before.now m) = Among.deeper m
+second-of (Before.under b) = Among.deeper (second-of b)
+
+-- of two that stand in a list, one stands before the other
+pub either-way {ℓ} : {A : Type 0} {C : Type ℓ} {x y : A} {l : List A} → Among x l → Among y l → (x ≡ y → C) → (Before x y l → C) → (Before y x l → C) → C
+either-way Among.top Among.top f g h = f refl
+either-way Among.top (Among.deeper n) f g h = g (Before.now n)
+either-way (Among.deeper m) Among.top f g h = h (Before.now m)
+either-way (Among.deeper m) (Among.deeper n) f g h = either-way m n f (λ o. g (Before.under o)) (λ o. h (Before.under o))
 
 pub length-from : (s n : ℕ) → length (from s n) ≡ n
 unfolding from
@@ -226,3 +246,101 @@ all-has {A} p x (y ∷ l) t m = by (p y)
 
 pub among-length : {A : Type 0} {x : A} (l : List A) → Among x l → 0 < length l
 among-length (y ∷ l) m = omega arith
+
+-- ---- the first that passes a test
+
+module _ {A : Type 0} (p : A → Bool) (d : A) where
+  pub first-true : (x : A) (l : List A) → p x ≡ true → firstOf p d (x ∷ l) ≡ x
+  unfolding firstOf
+  first-true x l e = rw (e, firstOf)
+
+  pub first-false : (x : A) (l : List A) → p x ≡ false → firstOf p d (x ∷ l) ≡ firstOf p d l
+  unfolding firstOf
+  first-false x l e = rw (e, firstOf)
+
+  -- it passes, where one does
+  pub first-passes : (x : A) (l : List A) → Among x l → T (p x) → T (p (firstOf p d l))
+  first-passes x (y ∷ l) m t = by (p y)
+      (λ e. subst (λ z. T (p z)) (sym (first-true y l e)) (T-of e))
+      (λ e. subst (λ z. T (p z)) (sym (first-false y l e)) (first-passes x l (among-cons m (λ q. absurd (subst T (ap p q ∙ e) t)) (λ n. n)) t))
+
+-- of numbers in order, it is the lowest
+pub first-least : (p : ℕ → Bool) (d s n x : ℕ) → Among x (from s n) → T (p x) → firstOf p d (from s n) ≤ x
+unfolding from
+first-least p d s (suc n) x m t = by (p s)
+    (λ e. omega (arith, first-true p d s (from (suc s) n) e, from-le s (suc n) x m))
+    (λ e. omega (arith, first-false p d s (from (suc s) n) e, first-least p d (suc s) n x (among-cons m (λ q. absurd (subst T (ap p q ∙ e) t)) (λ k. k)) t))
+
+-- where it isn't the default 0, it passes, and none before it does; where it is, none passes
+pub first-some : (p : ℕ → Bool) (l : List ℕ) (k : ℕ) → firstOf p 0 l ≡ suc k → T (p (suc k))
+unfolding firstOf
+first-some p [] k e = absurd (omega (arith, e))
+first-some p (x ∷ l) k e = by (p x)
+    (λ t. subst (λ j. T (p j)) (sym (first-true p 0 x l t) ∙ e) (T-of t))
+    (λ t. first-some p l k (sym (first-false p 0 x l t) ∙ e))
+
+pub first-none : (p : ℕ → Bool) (s n : ℕ) → 0 < s → firstOf p 0 (from s n) ≡ 0 → (j : ℕ) → j < n → p (s + j) ≡ false
+unfolding firstOf from
+first-none p s zero h e j lt = absurd (omega arith)
+first-none p s (suc n) h e zero lt = by (p s)
+    (λ t. absurd (omega (arith, sym (first-true p 0 s (from (suc s) n) t) ∙ e)))
+    (λ t. ap p (add-zero s) ∙ t)
+first-none p s (suc n) h e (suc j) lt = by (p s)
+    (λ t. absurd (omega (arith, sym (first-true p 0 s (from (suc s) n) t) ∙ e)))
+    (λ t. ap p (add-suc s j ∙ sym (suc-add s j)) ∙ first-none p (suc s) n (omega arith) (sym (first-false p 0 s (from (suc s) n) t) ∙ e) j (omega arith))
+
+pub record Earliest (p : ℕ → Bool) (s m k : ℕ) : Type 0 where
+  pub inside : k < s + m
+  pub none : (j : ℕ) → s ≤ j → j < k → p j ≡ false
+
+pub earliest : (p : ℕ → Bool) (s m k : ℕ) → firstOf p 0 (from s m) ≡ suc k → Earliest p s m (suc k)
+unfolding firstOf from
+earliest p s zero k e = absurd (omega (arith, e))
+earliest p s (suc m) k e = by (p s)
+    (λ q. let r : s ≡ suc k = sym (first-true p 0 s (from (suc s) m) q) ∙ e in record { inside = omega arith; none = λ j a b. absurd (omega arith) })
+    (λ q. let r : Earliest p (suc s) m (suc k) = earliest p (suc s) m k (sym (first-false p 0 s (from (suc s) m) q) ∙ e) in
+    record {
+      inside = omega (arith, r .inside);
+      none = λ j a b. by (eqb s j)
+          (λ z. subst (λ i. p i ≡ false) (eqb→eq s j (T-of z)) q)
+          (λ z. r .none j (above s j a (λ w. subst T z (subst (λ i. T (eqb s i)) w (eqb-refl s)))) b);
+    })
+  where
+    above : (s j : ℕ) → s ≤ j → s ≢ j → suc s ≤ j
+    above s j a d = omega arith
+
+-- ---- lists through a map, and their beginnings
+
+module _ {A B : Type 0} (f : A → B) where
+  pub map-append : (u v : List A) → map f (u ++ v) ≡ map f u ++ map f v
+  map-append [] v = refl
+  map-append (x ∷ u) v = ap (λ r. f x ∷ r) (map-append u v)
+
+  pub among-map : {x : A} {l : List A} → Among x l → Among (f x) (map f l)
+  among-map Among.top = Among.top
+  among-map (Among.deeper m) = Among.deeper (among-map m)
+
+  -- what stands in the image comes from somewhere
+  pub among-unmap : (y : B) (l : List A) → Among y (map f l) → (x : A) × Among x l × (f x ≡ y)
+  among-unmap y (x ∷ l) Among.top = (x, Among.top, refl)
+  among-unmap y (x ∷ l) (Among.deeper m) = let r = among-unmap y l m in (r .0, Among.deeper (r .1), r .2)
+
+  pub before-map : {x y : A} {l : List A} → Before x y l → Before (f x) (f y) (map f l)
+  before-map (Before.now m) = Before.now (among-map m)
+  before-map (Before.under b) = Before.under (before-map b)
+
+  pub before-unmap : (u v : B) (l : List A) → Before u v (map f l) → (x : A) × (y : A) × Before x y l × (f x ≡ u) × (f y ≡ v)
+  before-unmap u v (x ∷ l) (Before.now m) = let r = among-unmap v l m in (x, r .0, Before.now (r .1), refl, r .2)
+  before-unmap u v (x ∷ l) (Before.under b) = let r = before-unmap u v l b in (r .0, r .1, Before.under (r .2), r .3, r .4)
+
+pub map-map : {A B C : Type 0} (g : B → C) (f : A → B) (l : List A) → map g (map f l) ≡ map (λ x. g (f x)) l
+map-map g f [] = refl
+map-map g f (a ∷ l) = ap (λ r. g (f a) ∷ r) (map-map g f l)
+
+pub among-take : {A : Type 0} (k : ℕ) (x : A) (l : List A) → Among x (take k l) → Among x l
+among-take (suc k) x (y ∷ l) Among.top = Among.top
+among-take (suc k) x (y ∷ l) (Among.deeper m) = Among.deeper (among-take k x l m)
+
+pub before-take : {A : Type 0} (k : ℕ) (x y : A) (l : List A) → Before x y (take k l) → Before x y l
+before-take (suc k) x y (z ∷ l) (Before.now m) = Before.now (among-take k y l m)
+before-take (suc k) x y (z ∷ l) (Before.under b) = Before.under (before-take k x y l b)

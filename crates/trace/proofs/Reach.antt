@@ -1,19 +1,23 @@
 -- `reaches` is right: it passes exactly where there is a path.
 use Prim.Native.Nat.{ℕ, _<_}
-use mathlib.Core.Path.{_≡_, refl, sym, ap, _∙_, subst}
-use mathlib.Core.Bool.{Bool, true, false, not, _&&_, _||_}
+use mathlib.Core.Path.{_≡_, sym, subst}
+use mathlib.Core.Bool.{Bool, _&&_, _||_}
 use mathlib.Core.List.{List, [], _∷_}
 use lib.Dec.{T, eqb, eqb→eq, eqb-refl}
 use Rattle.trace.specs.Lists.{someOf}
 use Rattle.trace.specs.Paths.{Edge, hasEdge, Path, Cycle, reaches, cyclic}
 use Rattle.trace.proofs.Tests.{or-cases, or-left, or-right, and-left, and-right, and-both}
-use Rattle.trace.proofs.Lists.{some-cons, some-mono, some-has, Holds, some-at}
+use Rattle.trace.proofs.Lists.{Among, some-cons, some-mono, some-has, Holds, some-at}
 use Rattle.trace.specs.Paths.Path.{here, there}
 
 -- both ends of each edge are below n
 abbrev pub Bounded : ℕ → List Edge → Type 0
 Bounded n [] = Unit {0}
 Bounded n (e ∷ es) = (e .origin < n) × (e .goal < n) × Bounded n es
+
+pub edge-bound : (n : ℕ) (e : Edge) (g : List Edge) → Bounded n g → Among e g → (e .origin < n) × (e .goal < n)
+edge-bound n e (f ∷ g) b Among.top = (b .0, b .1)
+edge-bound n e (f ∷ g) b (Among.deeper m) = edge-bound n e g (b .2) m
 
 has-cons : (e : Edge) (es : List Edge) (a b : ℕ) → hasEdge (e ∷ es) a b ≡ ((eqb (e .origin) a && eqb (e .goal) b) || hasEdge es a b)
 unfolding hasEdge
@@ -22,6 +26,24 @@ has-cons e es a b = some-cons (λ x. eqb (x .origin) a && eqb (x .goal) b) e es
 pub path-joined : {es : List Edge} {a b c : ℕ} → Path es a b → Path es b c → Path es a c
 path-joined here q = q
 path-joined (there h p) q = there h (path-joined p q)
+
+-- a path of one edge or more, by its first edge and by its last
+pub record Over (g : List Edge) (a b : ℕ) : Type 0 where
+  pub mid : ℕ
+  pub edge : T (hasEdge g a mid)
+  pub path : Path g mid b
+
+pub record Last (g : List Edge) (a b : ℕ) : Type 0 where
+  pub mid : ℕ
+  pub path : Path g a mid
+  pub edge : T (hasEdge g mid b)
+
+last-of : {g : List Edge} {a m b : ℕ} → T (hasEdge g a m) → Path g m b → Last g a b
+last-of {a} h here = record { mid = a; path = here; edge = h }
+last-of h (there k p) = let r = last-of k p in record { mid = r .mid; path = there h (r .path); edge = r .edge }
+
+pub last-edge : {g : List Edge} {a b : ℕ} → Over g a b → Last g a b
+last-edge o = last-of (o .edge) (o .path)
 
 wider : (e : Edge) (es : List Edge) {a b : ℕ} → Path es a b → Path (e ∷ es) a b
 wider e es here = here

@@ -1,8 +1,8 @@
 -- Laws of swaps, over any type of operations with a symmetric conflict test.
-use Prim.Native.Nat.{ℕ, zero, suc}
+use Prim.Native.Nat.{suc}
 use mathlib.Core.Path.{_≡_, refl, sym, ap, _∙_, subst}
-use mathlib.Core.Bool.{Bool, true, false, not, _&&_, _||_}
-use mathlib.Core.List.{List, [], _∷_, _++_, map, append-assoc, cons≢nil}
+use mathlib.Core.Bool.{Bool, true, false, not, _||_}
+use mathlib.Core.List.{List, [], _∷_, _++_, map, cons≢nil}
 use lib.ListN.{length}
 use lib.Dec.{T, T-not, not-T}
 use Rattle.trace.specs.Lists.{keep}
@@ -46,11 +46,6 @@ module _ {A : Type 0} (conflict : A → A → Bool) where
   behind x [] q c = done
   behind x (y ∷ l) q c = swap (first (c .0)) (swaps-later y (behind x l q (c .1)))
 
-  -- l goes before x
-  pub ahead : (x : A) (l q : List A) → Passes x l → ((a b : A) → T (not (conflict a b)) → T (not (conflict b a))) → Swaps conflict (l ++ x ∷ q) (x ∷ l ++ q)
-  ahead x [] q c s = done
-  ahead x (y ∷ l) q c s = swaps-trans (swaps-later y (ahead x l q (c .1) s)) (swap (first (s x y (c .0))) done)
-
   module _ (p : A → Bool) where
     -- x fails the test, and conflicts with none of l that passes it
     abbrev pub Lets : A → List A → Type 0
@@ -61,6 +56,14 @@ module _ {A : Type 0} (conflict : A → A → Bool) where
     abbrev pub Apart : List A → Type 0
     Apart [] = Unit {0}
     Apart (x ∷ l) = (T (not (p x)) → Lets x l) × Apart l
+
+    pub apart-of : (l : List A) → ((x y : A) → Before x y l → T (not (p x)) → T (p y) → T (not (conflict x y))) → Apart l
+    apart-of [] h = tt
+    apart-of (x ∷ l) h = ((λ t. lets l (λ y m u. h x y (now m) t u)), apart-of l (λ y z b. h y z (under b)))
+      where
+        lets : (l : List A) → ((y : A) → Among y l → T (p y) → T (not (conflict x y))) → Lets x l
+        lets [] f = tt
+        lets (y ∷ l) f = (f y top, lets l (λ z m. f z (deeper m)))
 
     lets-passes : (x : A) (l : List A) → Lets x l → Passes x (keep p l)
     unfolding keep
@@ -117,6 +120,56 @@ module _ {A : Type 0} (conflict : A → A → Bool) where
   before-swaps c done m = m
   before-swaps c (swap s r) m = before-swaps c r (before-swap c s m)
 
+  module _ (p : A → Bool) (all-conflict : (x y : A) → T (p x) → T (p y) → T (conflict x y)) where
+    keep-swap : {l k : List A} → Swap conflict l k → keep p l ≡ keep p k
+    keep-swap (first {a = x} {b = y} {l} n) =
+        by (p x)
+        (λ ex. by (p y)
+        (λ ey. absurd (T-not (conflict x y) n (all-conflict x y (T-of ex) (T-of ey))))
+        (λ ey. keep-true p x (y ∷ l) ex ∙ ap (λ r. x ∷ r) (keep-false p y l ey) ∙ sym (keep-false p y (x ∷ l) ey ∙ keep-true p x l ex)))
+        (λ ex. keep-false p x (y ∷ l) ex ∙ sym (by (p y)
+        (λ ey. keep-true p y (x ∷ l) ey ∙ ap (λ r. y ∷ r) (keep-false p x l ex) ∙ sym (keep-true p y l ey))
+        (λ ey. keep-false p y (x ∷ l) ey ∙ keep-false p x l ex ∙ sym (keep-false p y l ey))))
+    keep-swap (later {a = x} {l} {k} s) =
+        by (p x)
+        (λ e. keep-true p x l e ∙ ap (λ r. x ∷ r) (keep-swap s) ∙ sym (keep-true p x k e))
+        (λ e. keep-false p x l e ∙ keep-swap s ∙ sym (keep-false p x k e))
+
+    -- swaps keep, in their order, any operations of which every two conflict: those of a thread, for one
+    pub keep-swaps : {l k : List A} → Swaps conflict l k → keep p l ≡ keep p k
+    keep-swaps done = refl
+    keep-swaps (swap s r) = keep-swap s ∙ keep-swaps r
+
+-- ---- swaps through a map, there and back
+
+module _ {A B : Type 0} (f : A → B) (c : B → B → Bool) where
+  swap-map : {l k : List A} → Swap (λ x y. c (f x) (f y)) l k → Swap c (map f l) (map f k)
+  swap-map (first n) = first n
+  swap-map (later s) = later (swap-map s)
+
+  pub swaps-map : {l k : List A} → Swaps (λ x y. c (f x) (f y)) l k → Swaps c (map f l) (map f k)
+  swaps-map done = done
+  swaps-map (swap s r) = swap (swap-map s) (swaps-map r)
+
+  no-swap : {k : List B} → Swap c [] k → ⊥
+  no-swap = elim [ ]
+
+  one-swap : {b : B} {k : List B} → Swap c (b ∷ []) k → ⊥
+  one-swap (later s) = no-swap s
+
+  swap-lift : (l : List A) (k : List B) → Swap c (map f l) k → (m : List A) × Swap (λ x y. c (f x) (f y)) l m × (map f m ≡ k)
+  swap-lift [] k s = absurd (no-swap s)
+  swap-lift (x ∷ []) k s = absurd (one-swap s)
+  swap-lift (x ∷ (y ∷ l)) k (first n) = (y ∷ (x ∷ l), first n, refl)
+  swap-lift (x ∷ (y ∷ l)) k (later s) = let r = swap-lift (y ∷ l) _ s in (x ∷ r .0, later (r .1), ap (λ z. f x ∷ z) (r .2))
+
+  pub swaps-lift : {j k : List B} → Swaps c j k → (l : List A) → map f l ≡ j → (m : List A) × Swaps (λ x y. c (f x) (f y)) l m × (map f m ≡ k)
+  swaps-lift done l e = (l, done, e)
+  swaps-lift (swap {k = i} s r) l e =
+      let u = swap-lift l i (subst (λ z. Swap c z i) (sym e) s) in
+      let v = swaps-lift r (u .0) (u .2) in
+      (v .0, swap (u .1) (v .1), v .2)
+
 -- Where events can be told apart, each conflicts with itself and the test is symmetric, swaps are just what keeps the order of every conflicting pair.
 -- Equal events are no trouble: they conflict, so that the first of them stays the first
 module _ {A : Type 0} (conflict : A → A → Bool) (same : A → A → Bool)
@@ -142,24 +195,8 @@ module _ {A : Type 0} (conflict : A → A → Bool) (same : A → A → Bool)
       (λ f. subst T (conflict-sym y x) (subst (λ z. T (conflict y z)) e (subst (λ z. T (conflict z b)) f c)))
       (λ f. subst (λ z. T (conflict x z)) (sym e ∙ f) (conflict-self x)))
 
-  kept-swap : {l k : List A} → Swap conflict l k → Kept l k
-  kept-swap (first {a = x} {b = y} {l} n) a b c =
-      by (either a b x)
-      (λ ex. by (either a b y)
-      (λ ey. absurd (T-not (conflict x y) n (clash a b x y c (T-of ex) (T-of ey))))
-      (λ ey. keep-true (either a b) x (y ∷ l) ex ∙ ap (λ r. x ∷ r) (keep-false (either a b) y l ey)
-      ∙ sym (keep-false (either a b) y (x ∷ l) ey ∙ keep-true (either a b) x l ex)))
-      (λ ex. keep-false (either a b) x (y ∷ l) ex ∙ sym (by (either a b y)
-      (λ ey. keep-true (either a b) y (x ∷ l) ey ∙ ap (λ r. y ∷ r) (keep-false (either a b) x l ex) ∙ sym (keep-true (either a b) y l ey))
-      (λ ey. keep-false (either a b) y (x ∷ l) ey ∙ keep-false (either a b) x l ex ∙ sym (keep-false (either a b) y l ey))))
-  kept-swap (later {a = x} {l} {k} s) a b c =
-      by (either a b x)
-      (λ e. keep-true (either a b) x l e ∙ ap (λ r. x ∷ r) (kept-swap s a b c) ∙ sym (keep-true (either a b) x k e))
-      (λ e. keep-false (either a b) x l e ∙ kept-swap s a b c ∙ sym (keep-false (either a b) x k e))
-
   pub kept-swaps : {l k : List A} → Swaps conflict l k → Kept l k
-  kept-swaps done a b c = refl
-  kept-swaps (swap s r) a b c = kept-swap s a b c ∙ kept-swaps r a b c
+  kept-swaps s a b c = keep-swaps conflict (either a b) (λ x y. clash a b x y c) s
 
   -- the first x of k, with what stands before it
   record Found (x : A) (k : List A) : Type 0 where

@@ -1,9 +1,9 @@
 -- Tests as facts: by cases, and put together by && and ||.
-use mathlib.Core.Path.{_≡_, refl, sym, ap, _∙_, subst}
-use mathlib.Core.Bool.{Bool, true, false, not, cond, _&&_, _||_}
 use Prim.Native.Nat.{ℕ}
 use native.Mathlib.Decide.{ℕ-discrete}
-use lib.Dec.{T, T-not, not-T, eqb, ltb, eqb→eq, eqb-refl}
+use mathlib.Core.Path.{_≡_, refl, sym, subst}
+use mathlib.Core.Bool.{Bool, true, false, not, _&&_, _||_}
+use lib.Dec.{T}
 
 -- by cases on a test, with its value at hand
 pub by {ℓ} : {C : Type ℓ} (b : Bool) → (b ≡ true → C) → (b ≡ false → C) → C
