@@ -3,4 +3,5 @@ pub mod Refusals
 pub mod Judged
 pub mod Demand3
 pub mod Report
+pub mod Writing
 pub mod Examples

@@ -353,6 +353,14 @@ pub size-none : (old : List ℕ) → length old < 8 → encodedSize old ≡ 0
 unfolding encodedSize
 size-none old h = ap (λ t. cond t 8 0) (lt-leb 8 (length old) h)
 
+pub size-most : (old : List ℕ) (n : ℕ) → n ≡ encodedSize old → n ≤ 8
+unfolding encodedSize
+size-most old n e = subst (λ m. m ≤ 8) (sym e) (go (leb 8 (length old)))
+  where
+    go : (t : Bool) → cond t 8 0 ≤ 8
+    go true = omega arith
+    go false = omega arith
+
 pub length-encoded : (e : Event) → length (encoded e) ≡ 8
 unfolding encoded
 length-encoded e = refl

@@ -1,0 +1,292 @@
+-- Laws of what is written: piece after piece, and into the rest of an output.
+use Prim.Native.Nat.{ℕ, zero, suc, _+_, _*_, _-_, _≤_, _<_}
+use native.Mathlib.Omega.{arith}
+use native.Mathlib.Nat.{add-zero, zero-add, add-comm, mul-suc, mul-zero}
+use native.Mathlib.Numerals.{add-one}
+use mathlib.Core.Path.{_≡_, refl, sym, ap, ap₂, _∙_, subst}
+use mathlib.Core.Logic.{_≢_}
+use mathlib.Core.Bool.{Bool, true, false}
+use mathlib.Core.List.{List, [], _∷_, _++_, append-assoc, append-nil}
+use lib.Dec.{eqb}
+use lib.ListN.{length, getD, set, take, drop, length-append, length-take, length-drop, take-append-drop, drop-of-length-le}
+use lib.Seq.{take-all, drop-drop, drop-cons, drop-length, length-take-le, take-at, drop-append-add, sets-eq}
+use borrow.Author.Tests.{eq-eqb, ne-eqb}
+use borrow.Rule.Slice.PartMut.{putMid}
+use Rattle.record.specs.declared.Event.{Event}
+use Rattle.record.specs.Record.{encoded, encodedOver, encodedSize, inTwo}
+use Rattle.record.proofs.Laws.{encoded-over, size-over, length-encoded}
+use Rattle.trace.specs.Lists.{each, over}
+use Rattle.graph.specs.Transactions.{Labelled}
+use Rattle.graph.specs.Serial.{eventsOf, threadOf}
+use Rattle.graph.specs.Engine.{pastEnd, recordAt, held}
+use Rattle.graph.proofs.Held.{length-held, held-at}
+use Rattle.checker.specs.Report.{firstRecord}
+use Rattle.checker.specs.Writing.{writtenAt, bytesOf, lineOf}
+
+-- ---- Written from a place on
+
+pub written-nothing : (l : List ℕ) (n : ℕ) → writtenAt l n [] ≡ l
+unfolding writtenAt
+written-nothing l n = ap (λ k. take n l ++ drop k l) (add-zero n) ∙ take-append-drop n l
+
+pub written-start : (l new : List ℕ) → writtenAt l 0 new ≡ over new l
+unfolding writtenAt over
+written-start l new = ap (λ k. new ++ drop k l) (zero-add (length new))
+
+pub length-written : (l : List ℕ) (n : ℕ) (new : List ℕ) → n + length new ≤ length l → length (writtenAt l n new) ≡ length l
+unfolding writtenAt
+length-written l n new h =
+    let t : length (take n l) ≡ n = length-take-le n l (omega arith) in
+    let d : length (drop (n + length new) l) ≡ length l - (n + length new) = length-drop (n + length new) l in
+    let a : length (new ++ drop (n + length new) l) ≡ length new + length (drop (n + length new) l) = length-append new (drop (n + length new) l) in
+    length-append (take n l) (new ++ drop (n + length new) l) ∙ (omega arith)
+
+-- what is written after something is written with it
+pub written-more : (l : List ℕ) (n : ℕ) (new more : List ℕ) → n ≤ length l
+    → writtenAt (writtenAt l n new) (n + length new) more ≡ writtenAt l n (new ++ more)
+unfolding writtenAt
+written-more l n new more h =
+    let front : List ℕ = take n l ++ new in
+    let rest : List ℕ = drop (n + length new) l in
+    let k : ℕ = n + length new in
+    let whole : writtenAt l n new ≡ front ++ rest = sym (append-assoc (take n l) new rest) in
+    let size : length front ≡ k = length-append (take n l) new ∙ ap (λ m. m + length new) (length-take-le n l h) in
+    let t : take k (writtenAt l n new) ≡ front = ap (take k) whole ∙ take-at front rest k size in
+    let sum : k + length more ≡ n + length (new ++ more) =
+    (let a : length (new ++ more) ≡ length new + length more = length-append new more in omega arith) in
+    let d : drop (k + length more) (writtenAt l n new) ≡ drop (n + length (new ++ more)) l =
+    ap (drop (k + length more)) whole
+    ∙ ap (λ m. drop (m + length more) (front ++ rest)) (sym size)
+    ∙ drop-append-add front rest (length more)
+    ∙ drop-drop (length more) k l
+    ∙ ap (λ m. drop m l) sum in
+    let last : List ℕ = drop (n + length (new ++ more)) l in
+    ap₂ (λ (x y : List ℕ). x ++ (more ++ y)) t d
+    ∙ append-assoc (take n l) new (more ++ last)
+    ∙ ap (λ x. take n l ++ x) (sym (append-assoc new more last))
+
+-- Writing under way: of the whole, to be written from place n of out₀ on, the rest is still to be written, from place end of out on
+pub record Left (out₀ : List ℕ) (n : ℕ) (whole : List ℕ) (out : List ℕ) (end : ℕ) (rest : List ℕ) : Type 0 where
+  pub same : length out ≡ length out₀
+  pub place : end + length rest ≡ n + length whole
+  pub made : writtenAt out end rest ≡ writtenAt out₀ n whole
+
+module _ (out₀ : List ℕ) (n : ℕ) (whole : List ℕ) where
+  pub left-start : Left out₀ n whole out₀ n whole
+  left-start = record { same = refl; place = refl; made = refl }
+
+  -- there is room for the next piece
+  pub left-room : (out : List ℕ) (end : ℕ) (new rest : List ℕ) → n + length whole ≤ length out₀ → Left out₀ n whole out end (new ++ rest)
+      → end + length new ≤ length out
+  left-room out end new rest h l =
+      let a : length (new ++ rest) ≡ length new + length rest = length-append new rest in
+      omega (arith, l .same, l .place)
+
+  -- one piece more
+  pub left-more : (out : List ℕ) (end : ℕ) (new rest : List ℕ) (out′ : List ℕ) (end′ : ℕ) → n + length whole ≤ length out₀
+      → Left out₀ n whole out end (new ++ rest) → out′ ≡ writtenAt out end new → end′ ≡ end + length new → Left out₀ n whole out′ end′ rest
+  left-more out end new rest out′ end′ h l p q =
+      let a : length (new ++ rest) ≡ length new + length rest = length-append new rest in
+      let room : end + length new ≤ length out = left-room out end new rest h l in
+      record {
+        same = ap length p ∙ length-written out end new room ∙ l .same;
+        place = omega (arith, l .place, q);
+        made = ap₂ (λ (x : List ℕ) (m : ℕ). writtenAt x m rest) p q ∙ written-more out end new rest (omega arith) ∙ l .made;
+      }
+
+  -- nothing is left
+  pub left-place : (out : List ℕ) (end : ℕ) → Left out₀ n whole out end [] → end ≡ n + length whole
+  left-place out end l = omega (arith, l .place)
+
+  pub left-made : (out : List ℕ) (end : ℕ) → Left out₀ n whole out end [] → out ≡ writtenAt out₀ n whole
+  left-made out end l = sym (written-nothing out end) ∙ l .made
+
+-- an event that was written into the rest of an output, from place n on
+module _ (e : Event) (out : List ℕ) (n : ℕ) (room : n + length (encoded e) ≤ length out) where
+  part-whole : take (length out - n) (drop n out) ≡ drop n out
+  part-whole = take-all (length out - n) (drop n out) (omega (arith, length-drop n out))
+
+  part-room : 8 ≤ length (drop n out)
+  part-room = omega (arith, length-drop n out, length-encoded e, room)
+
+  pub written-size : encodedSize (take (length out - n) (drop n out)) ≡ length (encoded e)
+  written-size = ap encodedSize part-whole ∙ size-over (drop n out) part-room ∙ sym (length-encoded e)
+
+  pub written-part : (part : List ℕ) → part ≡ encodedOver e (take (length out - n) (drop n out)) → putMid n (length out - n) out part ≡ writtenAt out n (encoded e)
+  unfolding writtenAt
+  written-part part p =
+      let fits : length (drop n out) ≤ length out - n = omega (arith, length-drop n out) in
+      let none : drop (length out - n) (drop n out) ≡ [] = drop-of-length-le (drop n out) fits in
+      let q : part ≡ encoded e ++ drop (n + length (encoded e)) out =
+      p ∙ ap (encodedOver e) part-whole ∙ encoded-over e (drop n out) part-room
+      ∙ ap (λ x. encoded e ++ x) (drop-drop 8 n out ∙ ap (λ m. drop (n + m) out) (sym (length-encoded e))) in
+      simp (q, none, append-nil)
+
+-- numbers stored one after the other
+pub two-stores : (l : List ℕ) (i a b : ℕ) → i + 2 ≤ length l → set (set l i a) (i + 1) b ≡ writtenAt l i (a ∷ b ∷ [])
+unfolding writtenAt
+two-stores l i a b h =
+    ap (λ j. set (set l i a) j b) (add-one i) ∙ sets-eq (a ∷ b ∷ []) l i h ∙ append-assoc (take i l) (a ∷ b ∷ []) (drop (i + 2) l)
+
+three-stores : (l : List ℕ) (i a b c : ℕ) → i + 3 ≤ length l → set (set (set l i a) (i + 1) b) (i + 2) c ≡ writtenAt l i (a ∷ b ∷ c ∷ [])
+unfolding writtenAt
+three-stores l i a b c h =
+    ap₂ (λ (j k : ℕ). set (set (set l i a) j b) k c) (add-one i) (two i)
+    ∙ sets-eq (a ∷ b ∷ c ∷ []) l i h ∙ append-assoc (take i l) (a ∷ b ∷ c ∷ []) (drop (i + 3) l)
+  where
+    two : (i : ℕ) → i + 2 ≡ suc (suc i)
+    two i = omega arith
+
+-- ---- What is written for each number of a list
+
+-- for those from place k on
+unfoldable pub eachFrom : (ℕ → List ℕ) → ℕ → List ℕ → List ℕ
+eachFrom f k l = each f (drop k l)
+
+-- the first k are written, up to place end
+abbrev pub Going : (ℕ → List ℕ) → List ℕ → List ℕ → List ℕ → ℕ → ℕ → Type 0
+Going f l out₀ out end k = Left out₀ 0 (each f l) out end (eachFrom f k l)
+
+module _ (f : ℕ → List ℕ) (l out₀ : List ℕ) where
+  each-next : (k : ℕ) → k < length l → eachFrom f k l ≡ f (getD l k 0) ++ eachFrom f (suc k) l
+  unfolding eachFrom each
+  each-next k h = ap (each f) (drop-cons l k 0 h)
+
+  each-none : (k : ℕ) → length l ≤ k → eachFrom f k l ≡ []
+  unfolding eachFrom each
+  each-none k h = ap (each f) (drop-of-length-le l h)
+
+  pub going-start : Going f l out₀ out₀ 0 0
+  unfolding eachFrom
+  going-start = left-start out₀ 0 (each f l)
+
+  pub going-room : (out : List ℕ) (end k : ℕ) → length (each f l) ≤ length out₀ → k < length l → Going f l out₀ out end k → end + length (f (getD l k 0)) ≤ length out
+  going-room out end k room h g =
+      left-room out₀ 0 (each f l) out end (f (getD l k 0)) (eachFrom f (suc k) l) (omega arith) (subst (Left out₀ 0 (each f l) out end) (each-next k h) g)
+
+  pub going-more : (out : List ℕ) (end k : ℕ) (out′ : List ℕ) (end′ : ℕ) → length (each f l) ≤ length out₀ → k < length l → Going f l out₀ out end k
+      → out′ ≡ writtenAt out end (f (getD l k 0)) → end′ ≡ end + length (f (getD l k 0)) → Going f l out₀ out′ end′ (k + 1)
+  going-more out end k out′ end′ room h g p q =
+      subst (Going f l out₀ out′ end′) (sym (add-one k))
+      (left-more out₀ 0 (each f l) out end (f (getD l k 0)) (eachFrom f (suc k) l) out′ end′ (omega arith) (subst (Left out₀ 0 (each f l) out end) (each-next k h) g) p q)
+
+  pub going-end : (out : List ℕ) (end k : ℕ) → length l ≤ k → Going f l out₀ out end k → out ≡ over (each f l) out₀
+  going-end out end k h g =
+      left-made out₀ 0 (each f l) out end (subst (Left out₀ 0 (each f l) out end) (each-none k h) g) ∙ written-start out₀ (each f l)
+
+pub length-each : (f : ℕ → List ℕ) (w : ℕ) → ((a : ℕ) → length (f a) ≡ w) → (l : List ℕ) → length (each f l) ≡ w * length l
+unfolding each
+length-each f w h [] = sym (mul-zero w)
+length-each f w h (a ∷ l) =
+    let p : length (f a ++ each f l) ≡ length (f a) + length (each f l) = length-append (f a) (each f l) in
+    let q : length (each f l) ≡ w * length l = length-each f w h l in
+    p ∙ ap₂ _+_ (h a) q ∙ add-comm w (w * length l) ∙ sym (mul-suc w (length l))
+
+pub length-line : (n : ℕ) (all : List Event) (labels : List ℕ) (a : ℕ) → length (lineOf n all labels a) ≡ 3
+unfolding lineOf
+length-line n all labels a = refl
+
+-- a line stored, its thread and its first record known
+pub line-stored : (n : ℕ) (all : List Event) (labels : List ℕ) (a t f : ℕ) (l : List ℕ) (i : ℕ) → i + 3 ≤ length l
+    → t ≡ threadOf (held n all labels) a → f ≡ firstRecord 0 (held n all labels) a
+    → set (set (set l i a) (i + 1) t) (i + 2) f ≡ writtenAt l i (lineOf n all labels a)
+unfolding lineOf
+line-stored n all labels a t f l i h p q = three-stores l i a t f h ∙ ap₂ (λ (x y : ℕ). writtenAt l i (a ∷ x ∷ y ∷ [])) p q
+
+-- ---- The records of a transaction
+
+-- the bytes of those from record i on
+unfoldable pub bytesFrom : ℕ → ℕ → List Event → List ℕ → ℕ → List ℕ
+bytesFrom i n all labels a = each encoded (eventsOf (drop i (held n all labels)) a)
+
+events-hit : (x : Labelled) (xs : List Labelled) (a : ℕ) → eqb (x .transaction) a ≡ true → eventsOf (x ∷ xs) a ≡ x .event ∷ eventsOf xs a
+unfolding eventsOf
+events-hit x xs a h = rw (h, eventsOf)
+
+events-miss : (x : Labelled) (xs : List Labelled) (a : ℕ) → eqb (x .transaction) a ≡ false → eventsOf (x ∷ xs) a ≡ eventsOf xs a
+unfolding eventsOf
+events-miss x xs a h = rw (h, eventsOf)
+
+held-next : (i n : ℕ) (all : List Event) (labels : List ℕ) → i < n → drop i (held n all labels) ≡ recordAt all labels i ∷ drop (suc i) (held n all labels)
+held-next i n all labels h =
+    let d : Labelled = recordAt all labels i in
+    drop-cons (held n all labels) i d (subst (λ m. i < m) (sym (length-held n all labels)) h)
+    ∙ ap (λ x. x ∷ drop (suc i) (held n all labels)) (held-at i n all labels d h)
+
+pub bytes-all : (n : ℕ) (all : List Event) (labels : List ℕ) (a : ℕ) → bytesFrom 0 n all labels a ≡ bytesOf n all labels a
+unfolding bytesFrom bytesOf
+bytes-all n all labels a = refl
+
+pub bytes-hit : (i n : ℕ) (all : List Event) (labels : List ℕ) (a : ℕ) → i < n → getD labels i 0 ≡ a
+    → bytesFrom i n all labels a ≡ encoded (getD all i pastEnd) ++ bytesFrom (suc i) n all labels a
+unfolding bytesFrom each
+bytes-hit i n all labels a h q =
+    ap (λ xs. each encoded (eventsOf xs a)) (held-next i n all labels h)
+    ∙ ap (each encoded) (events-hit (recordAt all labels i) (drop (suc i) (held n all labels)) a (eq-eqb (getD labels i 0) a q))
+
+pub bytes-miss : (i n : ℕ) (all : List Event) (labels : List ℕ) (a : ℕ) → i < n → getD labels i 0 ≢ a
+    → bytesFrom i n all labels a ≡ bytesFrom (suc i) n all labels a
+unfolding bytesFrom
+bytes-miss i n all labels a h q =
+    ap (λ xs. each encoded (eventsOf xs a)) (held-next i n all labels h)
+    ∙ ap (each encoded) (events-miss (recordAt all labels i) (drop (suc i) (held n all labels)) a (ne-eqb (getD labels i 0) a q))
+
+pub bytes-none : (i n : ℕ) (all : List Event) (labels : List ℕ) (a : ℕ) → n ≤ i → bytesFrom i n all labels a ≡ []
+unfolding bytesFrom each eventsOf
+bytes-none i n all labels a h =
+    ap (λ xs. each encoded (eventsOf xs a)) (drop-of-length-le (held n all labels) (subst (λ m. m ≤ i) (sym (length-held n all labels)) h))
+
+-- ---- Where a transaction begins
+
+thread-hit : (x : Labelled) (xs : List Labelled) (a : ℕ) → eqb (x .transaction) a ≡ true → threadOf (x ∷ xs) a ≡ x .event .thread
+unfolding threadOf
+thread-hit x xs a h = rw (h, threadOf)
+
+thread-miss : (x : Labelled) (xs : List Labelled) (a : ℕ) → eqb (x .transaction) a ≡ false → threadOf (x ∷ xs) a ≡ threadOf xs a
+unfolding threadOf
+thread-miss x xs a h = rw (h, threadOf)
+
+first-hit : (k : ℕ) (x : Labelled) (xs : List Labelled) (a : ℕ) → eqb (x .transaction) a ≡ true → firstRecord k (x ∷ xs) a ≡ k
+unfolding firstRecord
+first-hit k x xs a h = rw (h, firstRecord)
+
+first-miss : (k : ℕ) (x : Labelled) (xs : List Labelled) (a : ℕ) → eqb (x .transaction) a ≡ false → firstRecord k (x ∷ xs) a ≡ firstRecord (suc k) xs a
+unfolding firstRecord
+first-miss k x xs a h = rw (h, firstRecord)
+
+-- transaction a, among the first n records that arrays hold, has this thread and first record
+pub record Sought (n : ℕ) (all : List Event) (labels : List ℕ) (a thread place : ℕ) : Type 0 where
+  pub thread-is : threadOf (held n all labels) a ≡ thread
+  pub place-is : firstRecord 0 (held n all labels) a ≡ place
+
+-- it is to be found from record i on
+abbrev pub Unmet : ℕ → List Event → List ℕ → ℕ → ℕ → Type 0
+Unmet n all labels a i = Sought n all labels a (threadOf (drop i (held n all labels)) a) (firstRecord i (drop i (held n all labels)) a)
+
+module _ (n : ℕ) (all : List Event) (labels : List ℕ) (a : ℕ) where
+  pub unmet-start : Unmet n all labels a 0
+  unmet-start = record { thread-is = refl; place-is = refl }
+
+  pub unmet-hit : (i : ℕ) → i < n → getD labels i 0 ≡ a → Unmet n all labels a i → Sought n all labels a (getD all i pastEnd .thread) i
+  unmet-hit i h q u =
+      let t : eqb (getD labels i 0) a ≡ true = eq-eqb (getD labels i 0) a q in
+      let xs : List Labelled = drop (suc i) (held n all labels) in
+      record {
+        thread-is = u .thread-is ∙ ap (λ l. threadOf l a) (held-next i n all labels h) ∙ thread-hit (recordAt all labels i) xs a t;
+        place-is = u .place-is ∙ ap (λ l. firstRecord i l a) (held-next i n all labels h) ∙ first-hit i (recordAt all labels i) xs a t;
+      }
+
+  pub unmet-miss : (i : ℕ) → i < n → getD labels i 0 ≢ a → Unmet n all labels a i → Unmet n all labels a (suc i)
+  unmet-miss i h q u =
+      let t : eqb (getD labels i 0) a ≡ false = ne-eqb (getD labels i 0) a q in
+      let xs : List Labelled = drop (suc i) (held n all labels) in
+      record {
+        thread-is = u .thread-is ∙ ap (λ l. threadOf l a) (held-next i n all labels h) ∙ thread-miss (recordAt all labels i) xs a t;
+        place-is = u .place-is ∙ ap (λ l. firstRecord i l a) (held-next i n all labels h) ∙ first-miss i (recordAt all labels i) xs a t;
+      }
+
+  pub unmet-none : (i : ℕ) → n ≤ i → Unmet n all labels a i → Sought n all labels a 0 0
+  unfolding threadOf firstRecord
+  unmet-none i h u =
+      let none : drop i (held n all labels) ≡ [] = drop-of-length-le (held n all labels) (subst (λ m. m ≤ i) (sym (length-held n all labels)) h) in
+      record { thread-is = u .thread-is ∙ ap (λ l. threadOf l a) none; place-is = u .place-is ∙ ap (λ l. firstRecord i l a) none }
