@@ -2,12 +2,14 @@
 use Prim.Native.Nat.{ℕ, zero, suc, _+_, _*_, _/_, _%_, _≤_}
 use native.Mathlib.Omega.{arith}
 use mathlib.Core.Path.{_≡_, refl, sym, ap, ap₂, _∙_, subst}
+use mathlib.Core.Logic.{inl, inr, ⊎-elim}
 use mathlib.Core.List.{List, [], _∷_, _++_, map}
 use lib.ListN.{length, drop, replicate, length-map}
 use lib.Dec.{T}
 use Rattle.record.specs.declared.Event.{Event}
 use Rattle.record.specs.declared.Decoded.the-variants.{Good}
 use Rattle.record.specs.Record.{event, decoded, encoded, inTwo, inRange}
+use Rattle.record.proofs.Laws.{decoded-good, decoded-range, decode-encoded}
 use Rattle.replay.specs.Machine.{fresh, possible}
 use Rattle.trace.specs.Lists.{each, over}
 use Rattle.trace.specs.Paths.{Cycle}
@@ -50,140 +52,137 @@ numbers-written (n ∷ ns) rest = ap₂ (λ m l. m ∷ l) whole (numbers-written
 
 -- ---- events in range
 
-module _ (decode-encoded : (e : Event) → T (inRange e) → decoded (encoded e) ≡ Good e) (decoded-range : (bs : List ℕ) → length bs ≡ 8 → InForm bs → T (inRange (event bs))) where
-  decoded-all : (t : List Event) → ((e : Event) → Among e t → T (inRange e)) → map decoded (map encoded t) ≡ map Good t
-  decoded-all [] h = refl
-  decoded-all (e ∷ t) h = ap₂ (λ d l. d ∷ l) (decode-encoded e (h e Among.top)) (decoded-all t (λ f m. h f (Among.deeper m)))
+decoded-all : (t : List Event) → ((e : Event) → Among e t → T (inRange e)) → map decoded (map encoded t) ≡ map Good t
+decoded-all [] h = refl
+decoded-all (e ∷ t) h = ap₂ (λ d l. d ∷ l) (decode-encoded e (h e Among.top)) (decoded-all t (λ f m. h f (Among.deeper m)))
 
-  all-ranged : (rs : List (List ℕ)) → Every (λ r. length r ≡ 8) rs → Every InForm rs → (e : Event) → Among e (map event rs) → T (inRange e)
-  all-ranged (r ∷ rs) s f e m = among-cons m (λ q. subst (λ x. T (inRange x)) (sym q) (decoded-range r (s .0) (f .0))) (λ n. all-ranged rs (s .1) (f .1) e n)
+all-ranged : (rs : List (List ℕ)) → Every (λ r. length r ≡ 8) rs → Every InForm rs → (e : Event) → Among e (map event rs) → T (inRange e)
+all-ranged (r ∷ rs) s f e m = among-cons m (λ q. subst (λ x. T (inRange x)) (sym q) (decoded-range r (event r) (decoded-good r (s .0) (f .0)))) (λ n. all-ranged rs (s .1) (f .1) e n)
 
-  ranged : (input out work : List ℕ) → refusal input out work .number ≡ 0 → (e : Event) → Among e (events input) → T (inRange e)
-  unfolding events
-  ranged input out work fine e m = all-ranged (recordsOf input) (records-sized input out work fine) (passed input out work fine .1) e m
+ranged : (input out work : List ℕ) → refusal input out work .number ≡ 0 → (e : Event) → Among e (events input) → T (inRange e)
+unfolding events
+ranged input out work fine e m = all-ranged (recordsOf input) (records-sized input out work fine) (passed input out work fine .1) e m
 
-  -- ---- the promise, case by case
+-- ---- the promise, case by case
 
-  module _ (input out work : List ℕ) (fine : refusal input out work .number ≡ 0) where
-    abbrev es : List Event
-    es = events input
+module _ (input out work : List ℕ) (fine : refusal input out work .number ≡ 0) where
+  abbrev es : List Event
+  es = events input
 
-    -- the answer and the output, of any verdict
-    abbrev kept : Verdict → Judged
-    kept v = record { answer = v .answer; out = over (v .written) out; work = over (replicate workSize 0) work }
+  -- the answer and the output, of any verdict
+  abbrev kept : Verdict → Judged
+  kept v = record { answer = v .answer; out = over (v .written) out; work = over (replicate workSize 0) work }
 
-    judged-fine : (v : Verdict) → verdict (events input) ≡ v → judged input out work ≡ kept v
-    unfolding judged
-    judged-fine v q = by-refusal ∙ ap kept q
-      where
-        by-refusal : judged input out work ≡ kept (verdict (events input))
-        by-refusal = rw (fine, judged)
+  judged-fine : (v : Verdict) → verdict es ≡ v → judged input out work ≡ kept v
+  unfolding judged
+  judged-fine v q = by-refusal ∙ ap kept q
+    where
+      by-refusal : judged input out work ≡ kept (verdict es)
+      by-refusal = rw (fine, judged)
 
-    can : T (possible fresh (events input))
-    can = passed input out work fine .0
+  can : T (possible fresh es)
+  can = passed input out work fine .0
 
-    -- ---- cooperable
+  -- ---- cooperable
 
-    module _ (none : shortest (events input) ≡ 0) where
-      is-cooperable : judged input out work ≡ kept (cooperable (events input))
-      unfolding verdict
-      is-cooperable = judged-fine (cooperable (events input)) (rw (none, verdict))
+  module _ (none : shortest es ≡ 0) where
+    is-cooperable : judged input out work ≡ kept (cooperable es)
+    unfolding verdict
+    is-cooperable = judged-fine (cooperable es) (rw (none, verdict))
 
-      kind-cooperable : judged input out work .answer .kind ≡ 0
-      unfolding cooperable
-      kind-cooperable = ap (λ j. j .answer .kind) is-cooperable
+    kind-cooperable : judged input out work .answer .kind ≡ 0
+    unfolding cooperable
+    kind-cooperable = ap (λ j. j .answer .kind) is-cooperable
 
-      reached : Swaps (events input) (serialTrace (events input))
-      reached = cooperable-right (events input) none .0
+    reached : Swaps es (serialTrace es)
+    reached = cooperable-right es none .0
 
-      decodes : map decoded (records (judged input out work .answer .first) (judged input out work .out)) ≡ map Good (serialTrace (events input))
-      unfolding cooperable over
-      decodes =
-          let t : List Event = serialTrace (events input) in
-          ap (λ j. map decoded (records (j .answer .first) (j .out))) is-cooperable
-          ∙ ap (λ n. map decoded (records n (each encoded t ++ drop (length (each encoded t)) out))) (length-swaps conflict reached)
-          ∙ ap (map decoded) (records-written t (drop (length (each encoded t)) out))
-          ∙ decoded-all t (λ e m. ranged input out work fine e (among-swaps conflict (swaps-back conflict conflict-sym reached) m))
+    decodes : map decoded (records (judged input out work .answer .first) (judged input out work .out)) ≡ map Good (serialTrace es)
+    unfolding cooperable over
+    decodes =
+        let t : List Event = serialTrace es in
+        ap (λ j. map decoded (records (j .answer .first) (j .out))) is-cooperable
+        ∙ ap (λ n. map decoded (records n (each encoded t ++ drop (length (each encoded t)) out))) (length-swaps conflict reached)
+        ∙ ap (map decoded) (records-written t (drop (length (each encoded t)) out))
+        ∙ decoded-all t (λ e m. ranged input out work fine e (among-swaps conflict (swaps-back conflict conflict-sym reached) m))
 
-      written : Written input out work
-      unfolding events
-      written =
-          let s = swaps-replay fresh reached can in
-          record {
-            trace = serialTrace (events input);
-            decodes = decodes;
-            as-many = sym (length-swaps conflict reached) ∙ length-map (recordsOf input) event;
-            reached = reached;
-            serial = cooperable-right (events input) none .1;
-            can-be = s .0;
-            ends-same = sym (s .1);
-          }
+    written : Written input out work
+    unfolding events
+    written =
+        let s = swaps-replay fresh reached can in
+        record {
+          trace = serialTrace es;
+          decodes = decodes;
+          as-many = sym (length-swaps conflict reached) ∙ length-map (recordsOf input) event;
+          reached = reached;
+          serial = cooperable-right es none .1;
+          can-be = s .0;
+          ends-same = sym (s .1);
+        }
 
-    -- ---- violation
+  -- ---- violation
 
-    module _ (k : ℕ) (some : shortest (events input) ≡ suc k) where
-      is-violation : judged input out work ≡ kept (violation (events input) k)
-      unfolding verdict
-      is-violation = judged-fine (violation (events input) k) (rw (some, verdict))
+  module _ (k : ℕ) (some : shortest es ≡ suc k) where
+    is-violation : judged input out work ≡ kept (violation es k)
+    unfolding verdict
+    is-violation = judged-fine (violation es k) (rw (some, verdict))
 
-      kind-violation : judged input out work .answer .kind ≡ 1
-      unfolding violation
-      kind-violation = ap (λ j. j .answer .kind) is-violation
+    kind-violation : judged input out work .answer .kind ≡ 1
+    unfolding violation
+    kind-violation = ap (λ j. j .answer .kind) is-violation
 
-      place-is : judged input out work .answer .first ≡ k
-      unfolding violation
-      place-is = ap (λ j. j .answer .first) is-violation
+    place-is : judged input out work .answer .first ≡ k
+    unfolding violation
+    place-is = ap (λ j. j .answer .first) is-violation
 
-      numbers-are : numbersIn (judged input out work .answer .second) (judged input out work .out) ≡ cycleOf (events input) (suc k)
-      unfolding violation over
-      numbers-are =
-          let c : List ℕ = cycleOf (events input) (suc k) in
-          ap (λ j. numbersIn (j .answer .second) (j .out)) is-violation ∙ numbers-written c (drop (length (each inTwo c)) out)
+    numbers-are : numbersIn (judged input out work .answer .second) (judged input out work .out) ≡ cycleOf es (suc k)
+    unfolding violation over
+    numbers-are =
+        let c : List ℕ = cycleOf es (suc k) in
+        ap (λ j. numbersIn (j .answer .second) (j .out)) is-violation ∙ numbers-written c (drop (length (each inTwo c)) out)
 
-      violated : Violated input out work
-      unfolding cyclicUpTo
-      violated = record {
-        cycle = subst (λ n. Cycle (edgesUpTo (events input) (suc n))) (sym place-is) (cycle-means (edgesUpTo (events input) (suc k)) (shortest-cyclic (events input) k some));
-        no-shorter = λ j h c. subst T (shortest-first (events input) k some j (subst (λ n. j ≤ n) place-is h)) (cycle-made (edgesUpTo (events input) j) c);
-        by-rule = subst (λ n. Reported (edgesUpTo (events input) (suc n)) (transactionAt (events input) n) (numbersIn (judged input out work .answer .second) (judged input out work .out))) (sym place-is)
-            (subst (Reported (edgesUpTo (events input) (suc k)) (transactionAt (events input) k)) (sym numbers-are) (cycle-right (events input) k some));
+    violated : Violated input out work
+    unfolding cyclicUpTo
+    violated = record {
+      cycle = subst (λ n. Cycle (edgesUpTo es (suc n))) (sym place-is) (cycle-means (edgesUpTo es (suc k)) (shortest-cyclic es k some));
+      no-shorter = λ j h c. subst T (shortest-first es k some j (subst (λ n. j ≤ n) place-is h)) (cycle-made (edgesUpTo es j) c);
+      by-rule = subst (λ n. Reported (edgesUpTo es (suc n)) (transactionAt es n) (numbersIn (judged input out work .answer .second) (judged input out work .out))) (sym place-is)
+          (subst (Reported (edgesUpTo es (suc k)) (transactionAt es k)) (sym numbers-are) (cycle-right es k some));
+    }
+
+  -- Demand 3, of every input, output and work area that are not refused
+  pub demand-3 : Trusted input out work
+  demand-3 = go (shortest es) refl
+    where
+      go : (p : ℕ) → shortest es ≡ p → Trusted input out work
+      go zero e = record {
+        one-of-two = inl (kind-cooperable e);
+        exactly = ((λ q. (serialTrace es, reached e, cooperable-right es e .1)), λ t. kind-cooperable e);
+        cooperable = λ q. written e;
+        violation = λ q. absurd (omega (arith, kind-cooperable e, q));
+      }
+      go (suc k) e = record {
+        one-of-two = inr (kind-violation k e);
+        exactly = ((λ q. absurd (omega (arith, kind-violation k e, q))), λ t. absurd (violation-right es k e (t .0) (t .1) (t .2)));
+        cooperable = λ q. absurd (omega (arith, kind-violation k e, q));
+        violation = λ q. violated k e;
       }
 
-    -- Demand 3, of every input, output and work area that are not refused
-    pub demand-3 : Trusted input out work
-    demand-3 = go (shortest (events input)) refl
-      where
-        go : (p : ℕ) → shortest (events input) ≡ p → Trusted input out work
-        go zero e = record {
-          exactly = ((λ q. (serialTrace (events input), reached e, cooperable-right (events input) e .1)), λ t. kind-cooperable e);
-          cooperable = λ q. written e;
-          violation = λ q. absurd (omega (arith, kind-cooperable e, q));
-        }
-        go (suc k) e = record {
-          exactly = ((λ q. absurd (omega (arith, kind-violation k e, q))), λ t. absurd (violation-right (events input) k e (t .0) (t .1) (t .2)));
-          cooperable = λ q. absurd (omega (arith, kind-violation k e, q));
-          violation = λ q. violated k e;
-        }
+-- ---- the rest of what is promised
 
-  -- ---- the rest of what is promised
+-- a refused recording changes nothing, and its answer is the refusal
+pub refused-keeps : (input out work : List ℕ) (n : ℕ) → refusal input out work .number ≡ suc n
+    → judged input out work ≡ record { answer = record { kind = 2; first = suc n; second = refusal input out work .place }; out = out; work = work }
+unfolding judged
+refused-keeps input out work n e = rw (e, judged) (ap (λ m. refused m) e)
+  where
+    refused : ℕ → Judged
+    refused m = record { answer = record { kind = 2; first = m; second = refusal input out work .place }; out = out; work = work }
 
-  -- a refused recording changes nothing, and its answer is the refusal
-  pub refused-keeps : (input out work : List ℕ) (n : ℕ) → refusal input out work .number ≡ suc n
-      → judged input out work ≡ record { answer = record { kind = 2; first = suc n; second = refusal input out work .place }; out = out; work = work }
-  unfolding judged
-  refused-keeps input out work n e = rw (e, judged) (ap (λ m. refused m) e)
-    where
-      refused : ℕ → Judged
-      refused m = record { answer = record { kind = 2; first = m; second = refusal input out work .place }; out = out; work = work }
-
-  -- an answer is of kind 0, 1 or 2
-  pub kinds : (input out work : List ℕ) → judged input out work .answer .kind ≤ 2
-  kinds input out work = go (refusal input out work .number) refl
-    where
-      go : (n : ℕ) → refusal input out work .number ≡ n → judged input out work .answer .kind ≤ 2
-      go (suc n) e = omega (arith, ap (λ j. j .answer .kind) (refused-keeps input out work n e))
-      go zero e = by-shortest (shortest (events input)) refl
-        where
-          by-shortest : (p : ℕ) → shortest (events input) ≡ p → judged input out work .answer .kind ≤ 2
-          by-shortest zero q = omega (arith, kind-cooperable input out work e q)
-          by-shortest (suc k) q = omega (arith, kind-violation input out work e k q)
+-- an answer is of kind 0, 1 or 2
+pub kinds : (input out work : List ℕ) → judged input out work .answer .kind ≤ 2
+kinds input out work = go (refusal input out work .number) refl
+  where
+    go : (n : ℕ) → refusal input out work .number ≡ n → judged input out work .answer .kind ≤ 2
+    go zero e = ⊎-elim (λ q. omega (arith, q)) (λ q. omega (arith, q)) (demand-3 input out work e .one-of-two)
+    go (suc n) e = omega (arith, ap (λ j. j .answer .kind) (refused-keeps input out work n e))

@@ -1,8 +1,8 @@
 -- A recording that is not refused: its records have no fault of form, and its events are a possible history.
-use Prim.Native.Nat.{ℕ, zero, suc, _-_, _*_, _/_, _%_, _<_}
+use Prim.Native.Nat.{ℕ, zero, suc, _-_, _*_, _/_, _%_}
 use native.Mathlib.Omega.{arith}
 use mathlib.Core.Path.{_≡_, refl, sym, ap, _∙_, subst}
-use mathlib.Core.Bool.{true, false, not}
+use mathlib.Core.Bool.{not}
 use mathlib.Core.List.{List, [], _∷_, _++_, map}
 use lib.ListN.{length, drop, length-drop}
 use lib.Seq.{length-take-le}
@@ -14,39 +14,21 @@ use Rattle.replay.specs.Machine as Machine
 use Rattle.replay.specs.Machine.{fresh, faultOf, next, possible}
 use Rattle.graph.specs.Transactions.{full}
 use Rattle.graph.specs.Arranged.{workSize}
-use Rattle.trace.proofs.Tests.{by, T-of, and-both}
+use Rattle.record.proofs.Laws.{none-first, first-of-both, second-of-both, Counted, checks-counted}
+use Rattle.trace.proofs.Tests.{T-of, and-both}
 use Rattle.checker.specs.Refusals.{sizeChecks, records, recordsOf, Run, start, onwards, recordChecks, firstRefusal, refusal, events}
 
 -- ---- no fault in two lists of checks: none in either
 
-fault-on : (c : Check) (cs : List Check) → c .passed ≡ true → firstFault (c ∷ cs) ≡ firstFault cs
-unfolding firstFault
-fault-on c cs p = rw (p, firstFault)
-
-fault-off : (c : Check) (cs : List Check) → c .passed ≡ false → firstFault (c ∷ cs) ≡ c .number
-unfolding firstFault
-fault-off c cs p = rw (p, firstFault)
-
 fault-left : (cs ds : List Check) → firstFault (cs ++ ds) ≡ 0 → firstFault cs ≡ 0
-unfolding firstFault
-fault-left [] ds e = refl
-fault-left (c ∷ cs) ds e = by (c .passed)
-    (λ p. fault-on c cs p ∙ fault-left cs ds (sym (fault-on c (cs ++ ds) p) ∙ e))
-    (λ p. fault-off c cs p ∙ sym (fault-off c (cs ++ ds) p) ∙ e)
+fault-left cs ds e = go (firstFault cs) refl
+  where
+    go : (n : ℕ) → firstFault cs ≡ n → firstFault cs ≡ 0
+    go zero q = q
+    go (suc n) q = absurd (omega (arith, e, first-of-both cs ds n q))
 
-abbrev Numbered : List Check → Type 0
-Numbered [] = Unit {0}
-Numbered (c ∷ cs) = (0 < c .number) × Numbered cs
-
-fault-right : (cs ds : List Check) → Numbered cs → firstFault (cs ++ ds) ≡ 0 → firstFault ds ≡ 0
-fault-right [] ds n e = e
-fault-right (c ∷ cs) ds n e = by (c .passed)
-    (λ p. fault-right cs ds (n .1) (sym (fault-on c (cs ++ ds) p) ∙ e))
-    (λ p. absurd (omega (arith, n .0, fault-off c (cs ++ ds) p)))
-
-numbered : (bs : List ℕ) → Numbered (Record.checks bs)
-unfolding Record.checks
-numbered bs = (omega arith, (omega arith, (omega arith, (omega arith, (omega arith, (omega arith, (omega arith, (omega arith, tt))))))))
+fault-right : (cs ds : List Check) → Counted cs → firstFault (cs ++ ds) ≡ 0 → firstFault ds ≡ 0
+fault-right cs ds n e = sym (second-of-both cs ds n (fault-left cs ds e)) ∙ e
 
 -- ---- the records, one after the other
 
@@ -55,7 +37,7 @@ unfolding recordChecks faultOf
 record-passed r bs e =
     let two : firstFault (Record.checks bs ++ Machine.checks (r .state) (event bs)) ≡ 0 =
     fault-left (Record.checks bs ++ Machine.checks (r .state) (event bs)) (check 13 0 (not (full (r .tally) (event bs))) ∷ []) e in
-    (fault-left (Record.checks bs) (Machine.checks (r .state) (event bs)) two, fault-right (Record.checks bs) (Machine.checks (r .state) (event bs)) (numbered bs) two)
+    (fault-left (Record.checks bs) (Machine.checks (r .state) (event bs)) two, fault-right (Record.checks bs) (Machine.checks (r .state) (event bs)) (checks-counted bs) two)
 
 go-on : (r : Run) (k : ℕ) (bs : List ℕ) (rs : List (List ℕ)) → firstFault (recordChecks r bs) ≡ 0 → firstRefusal r k (bs ∷ rs) ≡ firstRefusal (onwards r (event bs)) (suc k) rs
 unfolding firstRefusal
@@ -107,14 +89,10 @@ sizes-passed input out work e = go (firstFault (sizeChecks input out work)) refl
 
 pub whole-records : (input out work : List ℕ) → refusal input out work .number ≡ 0 → length input % 8 ≡ 0
 unfolding sizeChecks
-whole-records input out work e = by (eqb (length input % 8) 0)
-    (λ p. eqb→eq (length input % 8) 0 (T-of p))
-    (λ p. absurd (omega (
-      arith,
-      sizes-passed input out work e,
-      fault-off (check 1 0 (eqb (length input % 8) 0))
-          (check 2 0 (leb (length input) 8192) ∷ check 3 0 (leb (length input) (length out)) ∷ check 4 0 (leb workSize (length work)) ∷ []) p,
-    )))
+whole-records input out work e =
+    eqb→eq (length input % 8) 0 (T-of (none-first 1 0 (eqb (length input % 8) 0)
+    (check 2 0 (leb (length input) 8192) ∷ check 3 0 (leb (length input) (length out)) ∷ check 4 0 (leb workSize (length work)) ∷ []) (omega arith)
+    (sizes-passed input out work e) .0))
 
 -- A recording that is not refused is a possible history, whose records have no fault of form
 pub passed : (input out work : List ℕ) → refusal input out work .number ≡ 0 → T (possible fresh (events input)) × Every InForm (recordsOf input)

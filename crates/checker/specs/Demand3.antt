@@ -1,7 +1,7 @@
 -- Demand 3: what the answer, and what is written, say of a recording that is not refused. Over swaps, and not over a graph.
 use Prim.Native.Nat.{ℕ, zero, suc, _≤_}
 use mathlib.Core.Path.{_≡_}
-use mathlib.Core.Logic.{_↔_}
+use mathlib.Core.Logic.{_↔_, _⊎_}
 use mathlib.Core.List.{List, [], _∷_, map}
 use lib.ListN.{length, drop}
 use lib.Dec.{T}
@@ -23,6 +23,9 @@ numbersIn zero bs = []
 numbersIn (suc n) bs = twoBytes bs 0 ∷ numbersIn n (drop 2 bs)
 
 module _ (input out work : List ℕ) where
+  abbrev pub es : List Event
+  es = events input
+
   abbrev pub answer : Numbers
   answer = judged input out work .answer
 
@@ -35,20 +38,21 @@ module _ (input out work : List ℕ) where
     pub trace : List Event
     pub decodes : map decoded (records (answer .first) left) ≡ map Good trace
     pub as-many : length trace ≡ length (recordsOf input)
-    pub reached : Swaps (events input) trace
+    pub reached : Swaps es trace
     pub serial : Serial trace
     pub can-be : T (possible fresh trace)
-    pub ends-same : after fresh trace ≡ after fresh (events input)
+    pub ends-same : after fresh trace ≡ after fresh es
 
   -- Violation: the prefix up to the named record has a cycle and no shorter one has. The numbers written are a cycle of edges of that prefix that
   -- starts at that record's transaction, chosen by the rule
   pub record Violated : Type 0 where
-    pub cycle : Cycle (edgesUpTo (events input) (suc (answer .first)))
-    pub no-shorter : (k : ℕ) → k ≤ answer .first → Cycle (edgesUpTo (events input) k) → ⊥
-    pub by-rule : Reported (edgesUpTo (events input) (suc (answer .first))) (transactionAt (events input) (answer .first)) (numbersIn (answer .second) left)
+    pub cycle : Cycle (edgesUpTo es (suc (answer .first)))
+    pub no-shorter : (k : ℕ) → k ≤ answer .first → Cycle (edgesUpTo es k) → ⊥
+    pub by-rule : Reported (edgesUpTo es (suc (answer .first))) (transactionAt es (answer .first)) (numbersIn (answer .second) left)
 
-  -- The answer is cooperable exactly if swaps reach a serial trace
+  -- The answer is cooperable (0) or violation (1), and cooperable exactly if swaps turn the recording into a serial trace
   pub record Trusted : Type 0 where
-    pub exactly : (answer .kind ≡ 0) ↔ ((t : List Event) × Swaps (events input) t × Serial t)
+    pub one-of-two : (answer .kind ≡ 0) ⊎ (answer .kind ≡ 1)
+    pub exactly : (answer .kind ≡ 0) ↔ ((t : List Event) × Swaps es t × Serial t)
     pub cooperable : answer .kind ≡ 0 → Written
     pub violation : answer .kind ≡ 1 → Violated

@@ -230,16 +230,24 @@ halves : (a b : Bool) → T (a && b) → T a × T b
 halves true b t = (tt, t)
 halves false b t = absurd t
 
+value-limit : (k : ℕ) → valueLimit k ≤ 255
+unfolding valueLimit
+value-limit k = go (leb k 2)
+  where
+    go : (t : Bool) → cond t 255 0 ≤ 255
+    go true = omega arith
+    go false = omega arith
+
 -- an event that was read is in range
-pub decoded-range : (bs : List ℕ) (e : Event) → ((i : ℕ) → byte bs i < 256) → decoded bs ≡ Good e → T (inRange e)
+pub decoded-range : (bs : List ℕ) (e : Event) → decoded bs ≡ Good e → T (inRange e)
 unfolding inRange event
-decoded-range bs e small h =
+decoded-range bs e h =
     let g : IsEvent bs e = good-decoded bs e h in
     let f : Faultless bs = faultless bs (g .faultless) in
     let q : Parts (byte bs 2) (byte bs 4) (twoBytes bs 6) = event-parts bs f in
     let o : Op = operation (byte bs 2) (byte bs 4) (twoBytes bs 6) in
     let t : target o ≤ targetLimit (kind o) = rw (q .kind-is, q .target-is) (f .target) in
-    let v : value o ≤ 65535 = omega (arith, small 6, small 7, q .value-is) in
+    let v : value o ≤ 65535 = omega (arith, f .low, f .high, value-limit (byte bs 2), q .value-is) in
     subst (λ x. T (inRange x)) (g .same)
     (both (leb (byte bs 3) 15) (leb (target o) (targetLimit (kind o)) && leb (value o) 65535) (le→leb (byte bs 3) 15 (f .thread))
     (both (leb (target o) (targetLimit (kind o))) (leb (value o) 65535) (le→leb (target o) (targetLimit (kind o)) t) (le→leb (value o) 65535 v)))
