@@ -8,3 +8,4 @@ pub mod Demand3
 pub mod Steps
 pub mod Round
 pub mod Meaning
+pub mod Examples
