@@ -11,3 +11,4 @@ pub mod Meaning
 pub mod Held
 pub mod Standing
 pub mod Seeking
+pub mod Examples
