@@ -129,6 +129,15 @@ pub range-right : (a b : Event) → conflict a b
     ≡ byRange (kind (a .op)) (kind (b .op)) (eqb (a .thread) (b .thread)) (eqb (target (a .op)) (b .thread)) (eqb (target (b .op)) (a .thread)) (eqb (target (a .op)) (target (b .op)))
 range-right = decides byRange range-test
 
+-- they compare nothing but threads and targets
+equal-test : T (everywhere inWords (λ k l p q r s. p || ((q || (r || s)) && inWords k l p q r s)))
+unfolding Lists.opened everywhere agree
+equal-test = tt
+
+pub unequal-right : (a b : Event) → a .thread ≢ b .thread
+    → (eqb (target (a .op)) (b .thread) || (eqb (target (b .op)) (a .thread) || eqb (target (a .op)) (target (b .op)))) ≡ false → conflict a b ≡ false
+unequal-right a b different none = decides (λ k l p q r s. p || ((q || (r || s)) && inWords k l p q r s)) equal-test a b ∙ rw (ne-eqb (a .thread) (b .thread) different, none)
+
 -- as the code goes by them: for two events of different threads, of kinds k and l, targets x and y, and code c
 module _ (a b : Event) (k l x y c : ℕ) (different : a .thread ≢ b .thread) (k-is : k ≡ kind (a .op)) (l-is : l ≡ kind (b .op))
     (x-is : x ≡ target (a .op)) (y-is : y ≡ target (b .op)) (c-is : c ≡ code k l) where

@@ -21,7 +21,8 @@ pub enum Arranged {
     Cyclic { record: usize, length: usize },
 }
 
-// Whether two operations conflict: by their threads, else by what the table compares of their two kinds.
+// Whether two operations conflict: by their threads, else by what the table compares of their two kinds. It compares nothing but threads and
+// targets, so the table is made only where two of these are equal.
 pub fn conflicts(a: Event, b: Event) -> bool
     ensures { λ r. ⌜ r ≡ conflict a b ⌝ }
 {
@@ -32,15 +33,11 @@ pub fn conflicts(a: Event, b: Event) -> bool
     }
     let p = a.op;
     let q = b.op;
-    let kind = record::kind_of(p);
-    let x = record::target_of(p);
-    let y = record::target_of(q);
-    let code = compare::code_of(kind, record::kind_of(q));
-    match kind {
-        1..=7 => compare::touched(code, x, y, t),
-        8..=9 => compare::governed(code, x, y, t, u),
-        _ => compare::untouched(code, y, t),
+    if compare::some_equal(record::target_of(p), record::target_of(q), t, u) {
+        let table = compare::TABLE;
+        return compare::conflicts_by(&table, a, b);
     }
+    false
 }
 
 // Counts an operation: the transaction that it belongs to, or that it would begin a 513th, and then nothing changes.
