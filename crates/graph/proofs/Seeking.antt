@@ -12,7 +12,7 @@ use Rattle.rows.specs.Bits.{has}
 use Rattle.graph.specs.Edges.{edges}
 use Rattle.graph.specs.Engine.{held, Stands, Closed, Sought}
 use Rattle.graph.proofs.Held.{length-held, held-take}
-use Rattle.graph.proofs.Demand3.{first-true, first-false}
+use Rattle.trace.proofs.Lists.{first-true, first-false}
 use Rattle.graph.proofs.Standing.{Kept, kept-then}
 
 -- whether the first k of count records have a cycle
@@ -54,7 +54,7 @@ module _ (count : ℕ) (all : List Event) (labels : List ℕ) where
         stands = c .stands e;
         none = sym (c .cycle) ∙ e;
         onward = s .onward ∙ ap (firstOf (cyclicAt count all labels) 0) (rest-of h)
-            ∙ first-false (cyclicAt count all labels) (suc k) (from (suc (suc k)) (count - suc k)) (at-next h ∙ sym (c .cycle) ∙ e);
+            ∙ first-false (cyclicAt count all labels) 0 (suc k) (from (suc (suc k)) (count - suc k)) (at-next h ∙ sym (c .cycle) ∙ e);
       }
 
       -- a cycle: this is the shortest prefix
@@ -62,7 +62,7 @@ module _ (count : ℕ) (all : List Event) (labels : List ℕ) where
       sought-cycle e = record {
         first = sym (ap (λ n. firstOf (cyclicAt count all labels) 0 (from 1 n)) (length-held count all labels) ∙ s .onward
             ∙ ap (firstOf (cyclicAt count all labels) 0) (rest-of h)
-            ∙ first-true (cyclicAt count all labels) (suc k) (from (suc (suc k)) (count - suc k)) (at-next h ∙ sym (c .cycle) ∙ e));
+            ∙ first-true (cyclicAt count all labels) 0 (suc k) (from (suc (suc k)) (count - suc k)) (at-next h ∙ sym (c .cycle) ∙ e));
         stands = λ z. absurd (omega arith);
         none = λ z. absurd (omega arith);
         row = row;
