@@ -11,3 +11,7 @@ pub mod Meaning
 pub mod Held
 pub mod Standing
 pub mod Seeking
+pub mod Noted
+pub mod Followed
+pub mod Picked
+pub mod Taken
