@@ -23,7 +23,7 @@ clash x y = conflict (x .event) (y .event)
 abbrev pub owner : Labelled → ℕ
 owner x = x .transaction
 
-abbrev edge : Labelled → Labelled → Edge
+abbrev pub edge : Labelled → Labelled → Edge
 edge x y = record { origin = x .transaction; goal = y .transaction }
 
 abbrev isAt : ℕ → ℕ → Edge → Bool
@@ -36,11 +36,11 @@ some-append p (x ∷ u) v = by (p x)
     (λ e. some-cons p x (u ++ v) ∙ ap (λ c. c || someOf p (u ++ v)) e ∙ sym (ap (λ c. c || someOf p v) (some-cons p x u ∙ ap (λ c. c || someOf p u) e)))
     (λ e. some-cons p x (u ++ v) ∙ ap (λ c. c || someOf p (u ++ v)) e ∙ some-append p u v ∙ sym (ap (λ c. c || someOf p v) (some-cons p x u ∙ ap (λ c. c || someOf p u) e)))
 
-of-true : (x y : Labelled) (ys : List Labelled) → makes x y ≡ true → edgesOf x (y ∷ ys) ≡ edge x y ∷ edgesOf x ys
+pub of-true : (x y : Labelled) (ys : List Labelled) → makes x y ≡ true → edgesOf x (y ∷ ys) ≡ edge x y ∷ edgesOf x ys
 unfolding edgesOf
 of-true x y ys e = rw (e, edgesOf)
 
-of-false : (x y : Labelled) (ys : List Labelled) → makes x y ≡ false → edgesOf x (y ∷ ys) ≡ edgesOf x ys
+pub of-false : (x y : Labelled) (ys : List Labelled) → makes x y ≡ false → edgesOf x (y ∷ ys) ≡ edgesOf x ys
 unfolding edgesOf
 of-false x y ys e = rw (e, edgesOf)
 

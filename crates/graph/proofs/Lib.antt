@@ -12,3 +12,7 @@ pub mod Held
 pub mod Standing
 pub mod Seeking
 pub mod Examples
+pub mod Noted
+pub mod Followed
+pub mod Picked
+pub mod Taken

@@ -2,14 +2,17 @@
 -- A reader of the public promise need not read this.
 use Prim.Native.Nat.{ℕ, zero, suc, _<_, _≤_}
 use mathlib.Core.Path.{_≡_}
-use mathlib.Core.Bool.{Bool, false, _&&_, _||_}
+use mathlib.Core.Bool.{Bool, false, cond, not, _&&_, _||_}
 use mathlib.Core.List.{List, [], _∷_, _++_}
 use lib.ListN.{length, getD, take, drop}
+use lib.Dec.{ltb}
 use Rattle.record.specs.declared.Event.{Event}
 use Rattle.record.specs.declared.Op.the-variants.{Read}
-use Rattle.trace.specs.Lists.{firstOf, from}
+use Rattle.trace.specs.Lists.{keep, firstOf, from, below}
 use Rattle.trace.specs.Paths.{Edge, reaches, cyclic}
-use Rattle.rows.specs.Bits.{has}
+use Rattle.rows.specs.Bits.{has, marked, inside}
+use Rattle.graph.specs.declared.order.Pick.{Pick}
+use Rattle.graph.specs.declared.order.Pick.the-variants.{Nothing, At}
 use Rattle.graph.specs.Transactions.{Labelled}
 use Rattle.graph.specs.Edges.{edges}
 
@@ -60,3 +63,28 @@ pub record Sought (xs : List Labelled) (labels : List ℕ) (before after : List 
   pub none : r ≡ 0 → cyclic (edges xs) ≡ false
   pub row : (k : ℕ) → r ≡ suc k → (a : ℕ) → a < 512 → has after (getD labels k 0) a ≡ reaches (edges (take (suc k) xs)) a (getD labels k 0)
   pub rest : drop 4096 after ≡ drop 4096 before
+
+-- ---- the serial order by rows
+
+-- whether transaction a isn't taken and all its other ancestors are, where row 0 of `taken` holds those taken
+unfoldable pub free : List ℕ → List ℕ → ℕ → Bool
+free work taken a = not (has taken 0 a) && inside work a (marked taken 0 a) 0
+
+-- of the one found so far and transaction b of thread u: the one with the lower thread, the first where they are the same
+abbrev pub better : Pick → ℕ → ℕ → Pick
+better Nothing b u = At b u
+better (At a t) b u = cond (ltb u t) (At b u) (At a t)
+
+-- the best of a list, and of the one found so far
+unfoldable pub pickedFrom : (ℕ → ℕ) → Pick → List ℕ → Pick
+pickedFrom thread best [] = best
+pickedFrom thread best (b ∷ bs) = pickedFrom thread (better best b (thread b)) bs
+
+-- at most k more of n transactions, the free one with the lowest thread first, until none is free
+unfoldable pub freeOrder : List ℕ → (ℕ → ℕ) → ℕ → ℕ → List ℕ → List ℕ
+freeOrder work thread n zero taken = []
+freeOrder work thread n (suc k) taken =
+    elim (pickedFrom thread Nothing (keep (free work taken) (below n))) [
+      | Nothing ↦ []
+      | At c t ↦ c ∷ freeOrder work thread n k (marked taken 0 c)
+    ]

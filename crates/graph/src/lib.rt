@@ -1,5 +1,7 @@
 // The graph of transactions: when two operations conflict, and which transaction each belongs to.
 mod compare;
+mod cycle;
+mod order;
 mod reach;
 mod tally;
 

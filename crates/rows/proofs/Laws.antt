@@ -60,6 +60,16 @@ larger (suc (suc u)) v p q = absurd (omega arith)
 pub bit-zero : (k : ℕ) → eqb (bitOf 0 k) 1 ≡ false
 bit-zero k = ap (λ (v : ℕ). eqb (v % 2) 1) (zero-div (2 ^ k))
 
+-- every number of zeros is 0, and no bit of them is set
+pub zeros-at : (n i : ℕ) → _≡_ {A = ℕ} (getD (replicate n 0) i 0) 0
+zeros-at zero i = refl
+zeros-at (suc n) zero = refl
+zeros-at (suc n) (suc i) = zeros-at n i
+
+pub zeros-none : (n a b : ℕ) → has (replicate n 0) a b ≡ false
+unfolding has
+zeros-none n a b = ap (λ (v : ℕ). eqb (bitOf v (b % 64)) 1) (zeros-at n (wordAt a b)) ∙ bit-zero (b % 64)
+
 -- ---- a bit that is set
 
 -- the place of a column in its row's numbers, taken apart
@@ -74,22 +84,23 @@ pub rest-marked : (w : List ℕ) (a b : ℕ) → a < 512 → b < 512 → drop 40
 unfolding marked
 rest-marked w a b in-a in-b = drop-set-lt 4096 w (wordAt a b) (bitOr (getD w (wordAt a b) 0) (2 ^ (b % 64))) (omega arith)
 
-module _ (w : List ℕ) (a b : ℕ) (in-a : a < 512) (in-b : b < 512) (long : 4096 ≤ length w) where
+-- of a row that lies wholly in the numbers
+module _ (w : List ℕ) (a b : ℕ) (in-b : b < 512) (long : a * 8 + 8 ≤ length w) where
   at-word : getD (marked w a b) (wordAt a b) 0 ≡ bitOr (getD w (wordAt a b) 0) (2 ^ (b % 64))
   unfolding marked
   at-word = getD-set-same w (wordAt a b) _ 0 (omega arith)
 
-  pub marked-same : has (marked w a b) a b ≡ true
+  pub marks-same : has (marked w a b) a b ≡ true
   unfolding has
-  marked-same =
+  marks-same =
       let u = getD w (wordAt a b) 0 in
       let h : bitOf (getD (marked w a b) (wordAt a b) 0) (b % 64) ≡ bitOf (bitOr u (2 ^ (b % 64))) (b % 64) =
       ap (λ (v : ℕ). bitOf v (b % 64)) at-word in
       eq-eqb (bitOf (getD (marked w a b) (wordAt a b) 0) (b % 64)) 1 (omega (arith, h, or-bit u (2 ^ (b % 64)) (b % 64), power-same (b % 64)))
 
-  pub marked-other : (x y : ℕ) → y < 512 → (a ≡ x → b ≡ y → ⊥) → has (marked w a b) x y ≡ has w x y
+  pub marks-other : (x y : ℕ) → y < 512 → (a ≡ x → b ≡ y → ⊥) → has (marked w a b) x y ≡ has w x y
   unfolding has marked
-  marked-other x y in-y ne = go (ℕ-discrete (wordAt x y) (wordAt a b))
+  marks-other x y in-y ne = go (ℕ-discrete (wordAt x y) (wordAt a b))
     where
       go : Dec (wordAt x y ≡ wordAt a b) → has (marked w a b) x y ≡ has w x y
       go (no other) = ap (λ (v : ℕ). eqb (bitOf v (y % 64)) 1) (getD-set-other w (wordAt a b) (wordAt x y) _ 0 other)
@@ -107,6 +118,14 @@ module _ (w : List ℕ) (a b : ℕ) (in-a : a < 512) (in-b : b < 512) (long : 40
           h ∙ o ∙ ap (λ (n : ℕ). max (bitOf u k) n) z ∙ max-zero (bitOf u k)
           ∙ ap (λ (i : ℕ). bitOf (getD w i 0) k) (sym same) in
           ap (λ (n : ℕ). eqb n 1) r
+
+-- of any row of a whole square
+module _ (w : List ℕ) (a b : ℕ) (in-a : a < 512) (in-b : b < 512) (long : 4096 ≤ length w) where
+  pub marked-same : has (marked w a b) a b ≡ true
+  marked-same = marks-same w a b in-b (omega arith)
+
+  pub marked-other : (x y : ℕ) → y < 512 → (a ≡ x → b ≡ y → ⊥) → has (marked w a b) x y ≡ has w x y
+  marked-other x y in-y ne = marks-other w a b in-b (omega arith) x y in-y ne
 
 -- ---- a row that is joined
 
@@ -314,7 +333,7 @@ module _ (w : List ℕ) (a : ℕ) (v : List ℕ) (b : ℕ) where
   each-within zero all = refl
   each-within (suc n) all = within-true w a v b n (each-within n (λ m h. all m (omega arith))) (all n (omega arith))
 
-  module _ (in-a : a < 512) (in-b : b < 512) (long-w : 4096 ≤ length w) (long-v : 4096 ≤ length v) where
+  module _ (long-w : a * 8 + 8 ≤ length w) (long-v : b * 8 + 8 ≤ length v) where
     -- where a row is within another, each of its bits is one of the other
     pub inside-all : inside w a v b ≡ true → (c : ℕ) → c < 512 → has w a c ≡ true → has v b c ≡ true
     unfolding has

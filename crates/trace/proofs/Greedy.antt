@@ -95,11 +95,11 @@ module _ (n : ℕ) (thread : ℕ → ℕ) (g : List Edge) where
       (λ v. subst (λ d. T (member d taken)) (eqb→eq (e .origin) a (and-left (eqb (e .origin) a) (eqb (e .goal) c) (f .holds))) v)
 
   -- available is free, and free is available
-  free-of : (c : ℕ) (taken : List ℕ) → c < n → T (available n thread g taken c) → Free n (Direct g) taken c
+  pub free-of : (c : ℕ) (taken : List ℕ) → c < n → T (available n thread g taken c) → Free n (Direct g) taken c
   unfolding available
   free-of c taken hc t = record { small = hc; new = and-left (not (member c taken)) (allOf (ready taken c) g) t; ready = λ b h. pred-taken c taken b t h }
 
-  available-of : (c : ℕ) (taken : List ℕ) → Free n (Direct g) taken c → T (available n thread g taken c)
+  pub available-of : (c : ℕ) (taken : List ℕ) → Free n (Direct g) taken c → T (available n thread g taken c)
   unfolding available hasEdge
   available-of c taken f = and-both (not (member c taken)) (allOf (ready taken c) g) (f .new)
       (by (allOf (ready taken c) g) T-of (λ t.

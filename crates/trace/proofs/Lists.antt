@@ -1,14 +1,16 @@
 -- Laws of the words for lists.
-use Prim.Native.Nat.{ℕ, zero, suc, _+_, _<_, _≤_}
+use Prim.Native.Nat.{ℕ, zero, suc, _+_, _-_, _<_, _≤_}
 use native.Mathlib.Omega.{arith}
+use native.Mathlib.Numerals.{add-one}
 use native.Mathlib.Nat.{add-zero, zero-add, add-suc, suc-add, le-of-suc-le-suc, not-suc-le-zero}
 use mathlib.Core.Path.{_≡_, refl, sym, ap, ap₂, _∙_, subst}
 use mathlib.Core.Logic.{_≢_}
 use mathlib.Core.Bool.{Bool, true, false, _&&_, _||_}
 use mathlib.Core.List.{List, [], _∷_, _++_, map}
-use lib.ListN.{length, take}
+use lib.ListN.{length, take, drop}
+use lib.Seq.{sets, sets-eq}
 use lib.Dec.{T, eqb, eqb→eq, eqb-refl}
-use Rattle.trace.specs.Lists.{someOf, allOf, keep, firstOf, member, from, below}
+use Rattle.trace.specs.Lists.{someOf, allOf, keep, firstOf, over, member, from, below}
 use Rattle.trace.proofs.Tests.{by, T-of, T-is, or-cases, or-left, or-right}
 
 -- b is one of a list; an a stands before a b
@@ -309,6 +311,23 @@ earliest p s (suc m) k e = by (p s)
     above : (s j : ℕ) → s ≤ j → s ≢ j → suc s ≤ j
     above s j a d = omega arith
 
+-- two tests that agree find the same
+pub first-same : {A : Type 0} (p q : A → Bool) (d : A) (l : List A) → ((x : A) → Among x l → p x ≡ q x) → firstOf p d l ≡ firstOf q d l
+unfolding firstOf
+first-same p q d [] h = refl
+first-same p q d (x ∷ l) h = by (p x)
+    (λ e. first-true p d x l e ∙ sym (first-true q d x l (sym (h x Among.top) ∙ e)))
+    (λ e. first-false p d x l e ∙ first-same p q d l (λ y m. h y (Among.deeper m)) ∙ sym (first-false q d x l (sym (h x Among.top) ∙ e)))
+
+-- the numbers from b to n are b and those after it
+pub from-step : (b n : ℕ) → b < n → from b (n - b) ≡ b ∷ from (b + 1) (n - (b + 1))
+unfolding from
+from-step b n h = let e : n - b ≡ suc (n - (b + 1)) = omega arith in ap (from b) e ∙ ap (λ k. b ∷ from k (n - (b + 1))) (sym (add-one b))
+
+pub from-none : (b n : ℕ) → n ≤ b → from b (n - b) ≡ []
+unfolding from
+from-none b n h = let e : n - b ≡ 0 = omega arith in ap (from b) e
+
 -- ---- lists through a map, and their beginnings
 
 module _ {A B : Type 0} (f : A → B) where
@@ -344,3 +363,8 @@ among-take (suc k) x (y ∷ l) (Among.deeper m) = Among.deeper (among-take k x l
 pub before-take : {A : Type 0} (k : ℕ) (x y : A) (l : List A) → Before x y (take k l) → Before x y l
 before-take (suc k) x y (z ∷ l) (Before.now m) = Before.now (among-take k y l m)
 before-take (suc k) x y (z ∷ l) (Before.under b) = Before.under (before-take k x y l b)
+
+-- stores one after the other from the front on write over it
+pub sets-over : {A : Type 0} (new old : List A) → length new ≤ length old → sets old 0 new ≡ over new old
+unfolding over
+sets-over new old h = sets-eq new old 0 (omega arith) ∙ ap (λ k. new ++ drop k old) (zero-add (length new))
