@@ -1,0 +1,54 @@
+// The pass that only reads: whether the recording is refused, and if not, its events and their transactions.
+use crate::Refusal;
+use graph::Numbered;
+use record::Decoded;
+use record::Event;
+use record::Op;
+ghost use Prim.Native.Nat.{_≤_};
+ghost use mathlib.Core.Path.{_≡_};
+ghost use lib.ListN.{length};
+ghost use Rattle.checker.specs.Examined.{runOf, Saw, Found};
+
+// A record, seen after those before it: its event and its transaction, or its lowest number.
+pub enum Seen {
+    Sound { event: Event, transaction: u16 },
+    Faulty(u8),
+}
+
+// Looks at one record and takes it in.
+pub fn see<'a>(
+    bytes: &[u8],
+    values: &'a mut [u16; 256],
+    holders: &'a mut [u8; 32],
+    lives: &'a mut [u8; 16],
+    waits: &'a mut [u8; 16],
+    current: &'a mut [u16; 16],
+    count: &'a mut u16,
+) -> Seen
+    requires { ⌜ length (now bytes) ≡ 8 ⌝ }
+    ensures { λ r. ⌜ Saw
+        (runOf (now (values .entry)) (now (holders .entry)) (now (lives .entry)) (now (waits .entry)) (now (current .entry)) (now (count .entry)))
+        (now (bytes .entry))
+        (runOf (now (values .exit)) (now (holders .exit)) (now (lives .exit)) (now (waits .exit)) (now (current .exit)) (now (count .exit)))
+        r ⌝ }
+{
+    match record::decode(bytes) {
+        Decoded::Refused(fault) => Seen::Faulty(fault.number),
+        Decoded::Good(event) => {
+            let number = replay::step(&mut *values, &mut *holders, &mut *lives, &mut *waits, event);
+            if number != 0 {
+                return Seen::Faulty(number);
+            }
+            match graph::number(&mut *current, &mut *count, event) {
+                Numbered::Of(transaction) => Seen::Sound { event, transaction },
+                Numbered::Full => Seen::Faulty(13),
+            }
+        }
+    }
+}
+
+// What all records were found to be. A refusal of number 0 is none.
+pub struct Examined {
+    pub all: [Event; 1024],
+    pub refusal: Refusal,
+}
