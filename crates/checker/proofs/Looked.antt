@@ -160,3 +160,40 @@ module _ (r : Run) (bs : List ℕ) (size : length bs ≡ 8) where
         answer = sym (seen-sound r bs n ∙ ap₂ Sound (g .same) (ap (belongs (r .tally)) (g .same) ∙ o .1));
         onward = λ z. now ∙ ap (onwards r) (sym (g .same));
       }
+
+-- ---- What the answer says
+
+-- a record that is sound is taken in, and its event and transaction are its own
+pub record Taken (r : Run) (bs : List ℕ) (after : Run) (e : Event) (a : ℕ) : Type 0 where
+  pub faultless : firstFault (recordChecks r bs) ≡ 0
+  pub event-is : e ≡ event bs
+  pub transaction-is : a ≡ belongs (r .tally) (event bs)
+  pub after-is : after ≡ onwards r (event bs)
+
+pub taken : (r : Run) (bs : List ℕ) (after : Run) (e : Event) (a : ℕ) → Saw r bs after (Sound e a) → Taken r bs after e a
+taken r bs after e a s = go (firstFault (recordChecks r bs)) refl
+  where
+    go : (n : ℕ) → firstFault (recordChecks r bs) ≡ n → Taken r bs after e a
+    go zero q =
+        let x : Sound e a ≡ Sound (event bs) (belongs (r .tally) (event bs)) = s .answer ∙ seen-sound r bs q in
+        record { faultless = q; event-is = cc x; transaction-is = cc x; after-is = s .onward q }
+    go (suc n) q =
+        let x : Sound e a ≡ Faulty (suc n) = s .answer ∙ seen-faulty r bs n q in
+        let z : _≡_ {A = ℕ} 0 1 = cc x in absurd (omega arith)
+
+-- a faulty record's number is that of its first fault
+pub record Stopped (r : Run) (bs : List ℕ) (n : ℕ) : Type 0 where
+  pub number : ℕ
+  pub number-is : n ≡ suc number
+  pub fault-is : firstFault (recordChecks r bs) ≡ suc number
+
+pub stopped : (r : Run) (bs : List ℕ) (after : Run) (n : ℕ) → Saw r bs after (Faulty n) → Stopped r bs n
+stopped r bs after n s = go (firstFault (recordChecks r bs)) refl
+  where
+    go : (m : ℕ) → firstFault (recordChecks r bs) ≡ m → Stopped r bs n
+    go zero q =
+        let x : Faulty n ≡ Sound (event bs) (belongs (r .tally) (event bs)) = s .answer ∙ seen-sound r bs q in
+        let z : _≡_ {A = ℕ} 0 1 = cc x in absurd (omega arith)
+    go (suc m) q =
+        let x : Faulty n ≡ Faulty (suc m) = s .answer ∙ seen-faulty r bs m q in
+        record { number = m; number-is = cc x; fault-is = q }

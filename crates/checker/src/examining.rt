@@ -52,3 +52,51 @@ pub struct Examined {
     pub all: [Event; 1024],
     pub refusal: Refusal,
 }
+
+// Looks at all records, up to the first with a fault. `labels` then has the transaction of each.
+pub fn examine(input: &[u8], labels: &mut [u16]) -> Examined
+    requires { ⌜ (length (now input) ≤ 8192) × (length (now labels) ≡ 1024) ⌝ }
+    ensures { λ r. ⌜ Found (now (input .entry)) (now (labels .exit)) r ⌝ }
+{
+    let state = replay::fresh();
+    let mut values = state.values;
+    let mut holders = state.holders;
+    let mut lives = state.lives;
+    let mut waits = state.waits;
+    let mut current = [0u16; 16];
+    let mut count = 0u16;
+    let none = Event {
+        thread: 0,
+        op: Op::Yield,
+    };
+    let mut all = [none; 1024];
+    let records = input.len() / 8;
+    let mut i = 0;
+    while i < records {
+        let bytes = &input[8 * i..8 * i + 8];
+        match see(
+            bytes,
+            &mut values,
+            &mut holders,
+            &mut lives,
+            &mut waits,
+            &mut current,
+            &mut count,
+        ) {
+            Seen::Sound { event, transaction } => {
+                all[i] = event;
+                labels[i] = transaction;
+            }
+            Seen::Faulty(number) => {
+                let refusal = Refusal { number, record: i };
+                return Examined { all, refusal };
+            }
+        }
+        i += 1;
+    }
+    let refusal = Refusal {
+        number: 0,
+        record: 0,
+    };
+    Examined { all, refusal }
+}
