@@ -1,4 +1,5 @@
 // The checker: one finished recording in, one answer out.
+mod examining;
 mod writing;
 
 // Why a recording is refused: the number, and the record that it is given at.

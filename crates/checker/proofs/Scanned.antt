@@ -1,0 +1,155 @@
+-- Laws of looking at the records one after the other: what those so far have led to, and what the rest will.
+use Prim.Native.Nat.{ℕ, zero, suc, _+_, _-_, _*_, _/_, _≤_, _<_}
+use native.Mathlib.Omega.{arith}
+use native.Mathlib.Numerals.{add-one}
+use mathlib.Core.Path.{_≡_, refl, sym, ap, ap₂, _∙_, subst}
+use mathlib.Core.Logic.{_≢_}
+use mathlib.Core.List.{List, [], _∷_, _++_, map, append-assoc, append-nil}
+use lib.ListN.{length, getD, set, take, drop, replicate, length-drop}
+use lib.Seq.{length-take-le, take-suc-set, drop-drop, getD-set-same, getD-set-other}
+use Rattle.record.specs.declared.Event.{Event}
+use Rattle.record.specs.Faults.{firstFault}
+use Rattle.record.specs.Record.{event}
+use Rattle.replay.specs.declared.State.{State}
+use Rattle.replay.specs.Machine.{fresh}
+use Rattle.graph.specs.Transactions.{none-yet, Labelled, belongs, tallied, labelledFrom, labelled}
+use Rattle.graph.specs.Engine.{pastEnd, labelledAs, recordAt, held}
+use Rattle.checker.specs.declared.Refusal.{Refusal}
+use Rattle.checker.specs.declared.examining.Seen.{Seen}
+use Rattle.checker.specs.declared.examining.Seen.the-variants.{Sound, Faulty}
+use Rattle.checker.specs.declared.examining.Examined.{Examined}
+use Rattle.checker.specs.Refusals.{Run, start, onwards, recordChecks, records, recordsOf, Fault, noFault, firstRefusal, events}
+use Rattle.checker.specs.Examined.{runOf, Saw, Found}
+use Rattle.checker.proofs.Looked.{Taken, taken, Stopped, stopped}
+
+-- ---- The records from one on
+
+unfoldable pub restFrom : List ℕ → ℕ → List (List ℕ)
+restFrom input i = records (length input / 8 - i) (drop (8 * i) input)
+
+rest-all : (input : List ℕ) → restFrom input 0 ≡ recordsOf input
+unfolding restFrom
+rest-all input = let z : length input / 8 - 0 ≡ length input / 8 = omega arith in ap (λ k. records k input) z
+
+rest-next : (input : List ℕ) (i : ℕ) → i < length input / 8 → restFrom input i ≡ take 8 (drop (8 * i) input) ∷ restFrom input (suc i)
+unfolding restFrom records
+rest-next input i h =
+    let k : length input / 8 - i ≡ suc (length input / 8 - suc i) = omega arith in
+    let m : 8 * i + 8 ≡ 8 * suc i = omega arith in
+    ap (λ n. records n (drop (8 * i) input)) k
+    ∙ ap (λ l. take 8 (drop (8 * i) input) ∷ records (length input / 8 - suc i) l) (drop-drop 8 (8 * i) input ∙ ap (λ n. drop n input) m)
+
+rest-none : (input : List ℕ) (i : ℕ) → length input / 8 ≤ i → restFrom input i ≡ []
+unfolding restFrom records
+rest-none input i h = let z : length input / 8 - i ≡ 0 = omega arith in ap (λ k. records k (drop (8 * i) input)) z
+
+-- the part of a recording that is record i
+pub part-is : (input : List ℕ) (i : ℕ) → take (8 * i + 8 - 8 * i) (drop (8 * i) input) ≡ take 8 (drop (8 * i) input)
+part-is input i = let z : 8 * i + 8 - 8 * i ≡ 8 = omega arith in ap (λ k. take k (drop (8 * i) input)) z
+
+pub part-size : (input : List ℕ) (i : ℕ) → i < length input / 8 → length (take (8 * i + 8 - 8 * i) (drop (8 * i) input)) ≡ 8
+part-size input i h = ap length (part-is input i) ∙ length-take-le 8 (drop (8 * i) input) (omega (arith, length-drop (8 * i) input))
+
+-- ---- Arrays with one entry more
+
+held-set : (n i : ℕ) (all : List Event) (labels : List ℕ) (e : Event) (a : ℕ) → n ≤ i → held n (set all i e) (set labels i a) ≡ held n all labels
+unfolding held
+held-set zero i all labels e a h = refl
+held-set (suc n) i all labels e a h =
+    let other : n ≢ i = λ q. absurd (omega (arith, q)) in
+    ap₂ (λ (l : List Labelled) (x : Labelled). l ++ (x ∷ [])) (held-set n i all labels e a (omega arith))
+    (ap₂ labelledAs (getD-set-other labels i n a 0 other) (getD-set-other all i n e pastEnd other))
+
+held-next : (i : ℕ) (all : List Event) (labels : List ℕ) (e : Event) (a : ℕ) → i < length all → i < length labels
+    → held (suc i) (set all i e) (set labels i a) ≡ held i all labels ++ (labelledAs a e ∷ [])
+unfolding held
+held-next i all labels e a h k =
+    ap₂ (λ (l : List Labelled) (x : Labelled). l ++ (x ∷ [])) (held-set i i all labels e a (omega arith))
+    (ap₂ labelledAs (getD-set-same labels i a 0 k) (getD-set-same all i e pastEnd h))
+
+append-cons : {A : Type 0} (l : List A) (x : A) (m : List A) → l ++ (x ∷ m) ≡ (l ++ (x ∷ [])) ++ m
+append-cons l x m = sym (append-assoc l (x ∷ []) m)
+
+-- ---- The records so far
+
+-- the first i records have led to r; their events and transactions are in the arrays
+pub record Under (input : List ℕ) (r : Run) (all : List Event) (labels : List ℕ) (i : ℕ) : Type 0 where
+  pub refused : firstRefusal start 0 (recordsOf input) ≡ firstRefusal r i (restFrom input i)
+  pub events-are : events input ≡ take i all ++ map event (restFrom input i)
+  pub labelled-are : labelled (events input) ≡ held i all labels ++ labelledFrom (r .tally) (map event (restFrom input i))
+
+pub under-start : (input : List ℕ) (s : State) (all : List Event) (labels : List ℕ) → s ≡ fresh
+    → Under input (runOf (s .values) (s .holders) (s .lives) (s .waits) (replicate 16 0) 0) all labels 0
+unfolding events held start none-yet
+under-start input s all labels h =
+    subst (λ x. Under input (record { state = x; tally = none-yet }) all labels 0) (sym h)
+    (record {
+      refused = ap (firstRefusal start 0) (sym (rest-all input));
+      events-are = ap (map event) (sym (rest-all input));
+      labelled-are = ap (λ l. labelled (map event l)) (sym (rest-all input));
+    })
+
+refusal-on : (r : Run) (k : ℕ) (bs : List ℕ) (rs : List (List ℕ)) → firstFault (recordChecks r bs) ≡ 0 → firstRefusal r k (bs ∷ rs) ≡ firstRefusal (onwards r (event bs)) (suc k) rs
+unfolding firstRefusal
+refusal-on r k bs rs q = rw (q, firstRefusal)
+
+refusal-at : (r : Run) (k : ℕ) (bs : List ℕ) (rs : List (List ℕ)) (n : ℕ) → firstFault (recordChecks r bs) ≡ suc n
+    → firstRefusal r k (bs ∷ rs) ≡ record { number = suc n; place = k }
+unfolding firstRefusal
+refusal-at r k bs rs n q = rw (q, firstRefusal)
+
+module _ (input : List ℕ) (r : Run) (all : List Event) (labels : List ℕ) (i : ℕ) (more : i < length input / 8) (bs : List ℕ) (is : bs ≡ take 8 (drop (8 * i) input)) where
+  next : restFrom input i ≡ bs ∷ restFrom input (suc i)
+  next = rest-next input i more ∙ ap (λ x. x ∷ restFrom input (suc i)) (sym is)
+
+  sound-more : i < length all → i < length labels → firstFault (recordChecks r bs) ≡ 0 → Under input r all labels i
+      → Under input (onwards r (event bs)) (set all i (event bs)) (set labels i (belongs (r .tally) (event bs))) (suc i)
+  unfolding labelledFrom
+  sound-more h k q u =
+      let e : Event = event bs in
+      let a : ℕ = belongs (r .tally) e in
+      let es : List Event = map event (restFrom input (suc i)) in
+      record {
+        refused = u .refused ∙ ap (firstRefusal r i) next ∙ refusal-on r i bs (restFrom input (suc i)) q;
+        events-are = u .events-are ∙ ap (λ l. take i all ++ map event l) next ∙ append-cons (take i all) e es ∙ ap (λ l. l ++ es) (sym (take-suc-set all i e h));
+        labelled-are = u .labelled-are ∙ ap (λ l. held i all labels ++ labelledFrom (r .tally) (map event l)) next
+            ∙ append-cons (held i all labels) (labelledAs a e) (labelledFrom (tallied (r .tally) e) es)
+            ∙ ap (λ l. l ++ labelledFrom (tallied (r .tally) e) es) (sym (held-next i all labels e a h k));
+      }
+
+  -- one more, without a fault
+  pub under-more : (after : Run) (e : Event) (a : ℕ) → i < length all → i < length labels → Under input r all labels i → Saw r bs after (Sound e a)
+      → Under input after (set all i e) (set labels i a) (i + 1)
+  under-more after e a h k u s =
+      let t : Taken r bs after e a = taken r bs after e a s in
+      let x = sound-more h k (t .faultless) u in
+      let y = subst (λ n. Under input (onwards r (event bs)) (set all i (event bs)) (set labels i n) (suc i)) (sym (t .transaction-is)) x in
+      let z = subst (λ n. Under input (onwards r (event bs)) (set all i n) (set labels i a) (suc i)) (sym (t .event-is)) y in
+      let w = subst (λ n. Under input n (set all i e) (set labels i a) (suc i)) (sym (t .after-is)) z in
+      subst (Under input after (set all i e) (set labels i a)) (sym (add-one i)) w
+
+  -- one with a fault
+  pub under-stop : (after : Run) (n : ℕ) → Under input r all labels i → Saw r bs after (Faulty n)
+      → Found input labels (record { all = all; refusal = record { number = n; «record» = i } })
+  under-stop after n u s =
+      let t : Stopped r bs n = stopped r bs after n s in
+      let f = u .refused ∙ ap (firstRefusal r i) next ∙ refusal-at r i bs (restFrom input (suc i)) (t .number) (t .fault-is) in
+      let some : n ≢ 0 = λ z. absurd (omega (arith, t .number-is, z)) in
+      record {
+        refusal = ap (λ m. record { number = m; place = i }) (t .number-is) ∙ sym f;
+        events-are = λ z. absurd (some z);
+        labelled-are = λ z. absurd (some z);
+      }
+
+-- all are seen
+pub under-end : (input : List ℕ) (r : Run) (all : List Event) (labels : List ℕ) (i : ℕ) → i ≡ length input / 8 → Under input r all labels i
+    → Found input labels (record { all = all; refusal = record { number = 0; «record» = 0 } })
+unfolding firstRefusal labelledFrom
+under-end input r all labels i h u =
+    let none : restFrom input i ≡ [] = rest-none input i (omega (arith, h)) in
+    record {
+      refusal = sym (u .refused ∙ ap (firstRefusal r i) none);
+      events-are = λ z. ap (λ k. take k all) (sym h) ∙ sym (u .events-are ∙ ap (λ l. take i all ++ map event l) none ∙ append-nil (take i all));
+      labelled-are = λ z. ap (λ k. held k all labels) (sym h)
+          ∙ sym (u .labelled-are ∙ ap (λ l. held i all labels ++ labelledFrom (r .tally) (map event l)) none ∙ append-nil (held i all labels));
+    }
