@@ -13,7 +13,7 @@ use Rattle.record.proofs.Laws.{decoded-good, decoded-range, decode-encoded}
 use Rattle.replay.specs.Machine.{fresh, possible}
 use Rattle.trace.specs.Lists.{each, over}
 use Rattle.trace.specs.Paths.{Cycle}
-use Rattle.trace.proofs.Lists.{Among, among-cons}
+use Rattle.trace.proofs.Lists.{Among, among-cons, Every}
 use Rattle.trace.proofs.Swaps.{swaps-back, among-swaps, length-swaps}
 use Rattle.trace.proofs.Reach.{cycle-means, cycle-made}
 use Rattle.graph.specs.Conflict.{conflict}
@@ -30,7 +30,7 @@ use Rattle.checker.specs.Verdict.{Verdict, cooperable, violation, verdic
 use Rattle.checker.specs.Refusals.{records, recordsOf, refusal, events}
 use Rattle.checker.specs.Judged.{Judged, judged}
 use Rattle.checker.specs.Demand3.{numbersIn, Written, Violated, Trusted}
-use Rattle.checker.proofs.Passed.{Every, InForm, passed, records-sized}
+use Rattle.checker.proofs.Passed.{InForm, passed, records-sized}
 use Rattle.checker.proofs.Commute.{swaps-replay}
 
 -- ---- what is written can be read

@@ -15,6 +15,7 @@ use Rattle.replay.specs.Machine.{fresh, faultOf, next, possible}
 use Rattle.graph.specs.Transactions.{full}
 use Rattle.graph.specs.Arranged.{workSize}
 use Rattle.record.proofs.Laws.{none-first, first-of-both, second-of-both, Counted, checks-counted}
+use Rattle.trace.proofs.Lists.{Every}
 use Rattle.trace.proofs.Tests.{T-of, and-both}
 use Rattle.checker.specs.Refusals.{sizeChecks, records, recordsOf, Run, start, onwards, recordChecks, firstRefusal, refusal, events}
 
@@ -46,11 +47,6 @@ go-on r k bs rs q = rw (q, firstRefusal)
 stop : (r : Run) (k : ℕ) (bs : List ℕ) (rs : List (List ℕ)) (n : ℕ) → firstFault (recordChecks r bs) ≡ suc n → firstRefusal r k (bs ∷ rs) .number ≡ suc n
 unfolding firstRefusal
 stop r k bs rs n q = rw (q, firstRefusal)
-
--- each of a list
-abbrev pub Every : {A : Type 0} → (A → Type 0) → List A → Type 0
-Every P [] = Unit {0}
-Every P (x ∷ xs) = P x × Every P xs
 
 abbrev pub InForm : List ℕ → Type 0
 InForm bs = firstFault (Record.checks bs) ≡ 0

@@ -1,4 +1,5 @@
 pub mod Clash
+pub mod Apart
 pub mod Numbering
 pub mod Ends
 pub mod Numbers

@@ -8,3 +8,5 @@ pub mod Order
 pub mod Greedy
 pub mod Moved
 pub mod Serial
+pub mod Runs
+pub mod Cells

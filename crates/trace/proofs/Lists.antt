@@ -368,3 +368,19 @@ before-take (suc k) x y (z ∷ l) (Before.under b) = Before.under (before-take k
 pub sets-over : {A : Type 0} (new old : List A) → length new ≤ length old → sets old 0 new ≡ over new old
 unfolding over
 sets-over new old h = sets-eq new old 0 (omega arith) ∙ ap (λ k. new ++ drop k old) (zero-add (length new))
+
+-- ---- what holds of each of a list
+
+abbrev pub Every : {A : Type 0} → (A → Type 0) → List A → Type 0
+Every P [] = Unit {0}
+Every P (x ∷ l) = P x × Every P l
+
+-- each of one with each of another
+module _ {A : Type 0} {P Q : A → Type 0} {R : A → A → Type 0} (both : (x y : A) → P x → Q y → R x y) where
+  every-second : (x : A) → P x → (k : List A) → Every Q k → Every (R x) k
+  every-second x p [] q = tt
+  every-second x p (y ∷ k) q = (both x y p (q .0), every-second x p k (q .1))
+
+  pub every-pair : (l k : List A) → Every P l → Every Q k → Every (λ x. Every (R x) k) l
+  every-pair [] k p q = tt
+  every-pair (x ∷ l) k p q = (every-second x (p .0) k q, every-pair l k (p .1) q)
