@@ -17,3 +17,5 @@ pub mod Noted
 pub mod Followed
 pub mod Picked
 pub mod Taken
+pub mod Tallying
+pub mod Arranging

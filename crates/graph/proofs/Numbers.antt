@@ -85,7 +85,7 @@ sane-tallied s e h =
     (λ b. omega (arith, ap (λ c. cond c 0 (suc (belongs s e))) b, belongs-lt s e h)))
     (λ j. omega (arith, h j, count-rises s e))
 
-tally-rises : (s : Tally) (es : List Event) → s .count ≤ tallyFrom s es .count
+pub tally-rises : (s : Tally) (es : List Event) → s .count ≤ tallyFrom s es .count
 unfolding tallyFrom
 tally-rises s [] = omega arith
 tally-rises s (e ∷ es) = omega (arith, count-rises s e, tally-rises (tallied s e) es)

@@ -162,16 +162,16 @@ nothing : cyclic (edges (labelled [])) ≡ false
 unfolding labelledFrom edges cyclic someOf
 nothing = refl
 
-labelled-length : (s : Tally) (es : List Event) → length (labelledFrom s es) ≡ length es
+pub labelled-length : (s : Tally) (es : List Event) → length (labelledFrom s es) ≡ length es
 unfolding labelledFrom
 labelled-length s [] = refl
 labelled-length s (e ∷ es) = ap suc (labelled-length (tallied s e) es)
 
 -- what stands for a record past the end
-abbrev blank : Labelled
+abbrev pub blank : Labelled
 blank = record { transaction = 0; event = record { thread = 0; op = Yield } }
 
-number-at : (xs : List Labelled) (i : ℕ) → getD (map (λ x. x .transaction) xs) i 0 ≡ getD xs i blank .transaction
+pub number-at : (xs : List Labelled) (i : ℕ) → getD (map (λ x. x .transaction) xs) i 0 ≡ getD xs i blank .transaction
 number-at xs i = List·getD-map (λ x. x .transaction) xs i blank
 
 -- The cycle that is reported is a cycle of edges of the prefix, from the transaction of its last record on, chosen by the rule

@@ -13,7 +13,9 @@ use Rattle.trace.specs.Paths.{Edge, reaches, cyclic}
 use Rattle.rows.specs.Bits.{has, marked, inside}
 use Rattle.graph.specs.declared.order.Pick.{Pick}
 use Rattle.graph.specs.declared.order.Pick.the-variants.{Nothing, At}
-use Rattle.graph.specs.Transactions.{Labelled}
+use Rattle.graph.specs.declared.label.Labelling.{Labelling}
+use Rattle.graph.specs.declared.label.Labelling.the-variants.{Done, Full}
+use Rattle.graph.specs.Transactions.{Labelled, labelled, transactions, transactionLimit}
 use Rattle.graph.specs.Edges.{edges}
 
 -- what stands for an event past the end of an array: zeros, and the first kind
@@ -36,6 +38,11 @@ held (suc n) all labels = held n all labels ++ (recordAt all labels n ∷ [])
 -- the first n labels number one of 512 transactions
 abbrev pub Few : ℕ → List ℕ → Type 0
 Few n labels = (i : ℕ) → i < n → getD labels i 0 < 512
+
+-- What labelling the first n events leaves and answers: each event's transaction and how many there are, or that there are over 512
+abbrev pub Labels : ℕ → List Event → List ℕ → Labelling → Type 0
+Labels n all labels (Done m) = (labelled (take n all) ≡ held n all labels) × (m ≡ transactions (take n all)) × (m ≤ transactionLimit)
+Labels n all labels Full = transactionLimit < transactions (take n all)
 
 -- The rows stand for the edges: bit a of row d is set where a path leads from a to d
 pub record Stands (w : List ℕ) (g : List Edge) : Type 0 where

@@ -1,12 +1,18 @@
-// The graph of transactions: when two operations conflict, and which transaction each belongs to.
+// The graph of transactions: when two operations conflict, which transaction each belongs to, and the serial order or the cycle.
 mod compare;
 mod cycle;
+mod engine;
+mod label;
 mod order;
 mod reach;
 mod tally;
 
+use label::Labelling;
 use record::Event;
 ghost use mathlib.Core.Path.{_≡_};
+ghost use Prim.Native.Nat.{min};
+ghost use lib.ListN.{take};
+ghost use Rattle.graph.specs.Arranged.{Arrangement, arranged};
 ghost use Rattle.graph.specs.Conflict.{conflict};
 ghost use Rattle.graph.specs.Transactions.{tallyOf, numbered, counted};
 
@@ -63,4 +69,39 @@ pub fn number<'a>(current: &'a mut [u16; 16], count: &'a mut u16, e: Event) -> N
     }
     tally::set_entry(&mut *current, t, tally::left(kind, own));
     Numbered::Of(own - 1)
+}
+
+// How many events count of them are, at most all 1,024.
+fn at_most_all(count: usize) -> usize
+    ensures { λ r. ⌜ r ≡ min count 1024 ⌝ }
+{
+    if count < 1024 {
+        return count;
+    }
+    1024
+}
+
+// Arranges the first count of the events, all where there are fewer: writes the transactions in serial order, or the cycle of the shortest
+// prefix with one, to the front of `order`, and leaves the work area's first 4,096 numbers 0. Where there are over 512 transactions, or the work
+// area has fewer numbers, nothing changes.
+pub fn arrange(
+    all: [Event; 1024],
+    count: usize,
+    order: &mut [u16; 512],
+    work: &mut [u64],
+) -> Arranged
+    ensures { λ r. ⌜ _≡_ {A = Arrangement} (record { answer = r; order = now (order .exit); work = now (work .exit) })
+        (arranged (take count all) (now (order .entry)) (now (work .entry))) ⌝ }
+{
+    if work.len() < 4096 {
+        return Arranged::Unfit;
+    }
+    let number = at_most_all(count);
+    let mut labels = [0u16; 1024];
+    match label::label_all(all, number, &mut labels) {
+        Labelling::Full => Arranged::Unfit,
+        Labelling::Done { transactions } => {
+            engine::arrange_labelled(all, &labels, number, transactions, order, work)
+        }
+    }
 }

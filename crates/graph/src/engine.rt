@@ -1,0 +1,61 @@
+// The passes over a labelled run of events: the rows, then the serial order or the cycle, then the rows cleared.
+use crate::Arranged;
+use record::Event;
+ghost use mathlib.Core.Path.{_≡_};
+ghost use Prim.Native.Nat.{_≤_};
+ghost use lib.ListN.{length, take};
+ghost use Rattle.trace.specs.Lists.{over};
+ghost use Rattle.graph.specs.declared.label.Labelling.the-variants.{Done};
+ghost use Rattle.graph.specs.Arranged.{Arrangement, named, found, arranged};
+ghost use Rattle.graph.specs.Engine.{held, Labels, Sought};
+
+// Writes the transactions that are named: all of n in serial order, or the cycle of the shortest prefix with one.
+fn name_all(
+    all: [Event; 1024],
+    labels: &[u16],
+    count: usize,
+    n: u16,
+    prefix: usize,
+    work: &[u64],
+    order: &mut [u16],
+) -> Arranged
+    requires { ⌜ (count ≤ 1024) × (count ≤ length (now labels)) × (512 ≤ length (now order)) ⌝ }
+    requires { ⌜ Labels count all (now labels) (Done n) ⌝ }
+    requires { ⌜ Sought (held count all (now labels)) (now labels) (now work) (now work) prefix ⌝ }
+    ensures { λ r. ⌜ (r ≡ found (take count all) prefix) × (now (order .exit) ≡ over (named (take count all) prefix) (now (order .entry))) ⌝ }
+{
+    if prefix == 0 {
+        crate::order::take_all(all, labels, count, work, n, order);
+        return Arranged::Ordered {
+            transactions: n as usize,
+        };
+    }
+    let last = prefix - 1;
+    let t = labels[last];
+    let length = crate::cycle::follow(all, labels, prefix, work, n, t, order);
+    Arranged::Cyclic {
+        record: last,
+        length: length as usize,
+    }
+}
+
+// Arranges count events of n transactions, with a work area that is long enough.
+pub fn arrange_labelled(
+    all: [Event; 1024],
+    labels: &[u16; 1024],
+    count: usize,
+    n: u16,
+    order: &mut [u16],
+    work: &mut [u64],
+) -> Arranged
+    requires { ⌜ (count ≤ 1024) × (512 ≤ length (now order)) × (4096 ≤ length (now work)) ⌝ }
+    requires { ⌜ Labels count all (now labels) (Done n) ⌝ }
+    ensures { λ r. ⌜ _≡_ {A = Arrangement} (record { answer = r; order = now (order .exit); work = now (work .exit) })
+        (arranged (take count all) (now (order .entry)) (now (work .entry))) ⌝ }
+{
+    crate::reach::begin(work);
+    let prefix = crate::reach::first_cycle(work, all, labels, count);
+    let answer = name_all(all, labels, count, n, prefix, work, order);
+    rows::clear(work);
+    answer
+}
