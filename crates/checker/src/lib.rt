@@ -1,4 +1,5 @@
 // The checker: one finished recording in, one answer out.
+mod concluding;
 mod examining;
 mod writing;
 
