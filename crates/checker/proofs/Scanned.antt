@@ -89,11 +89,11 @@ under-start input s all labels h =
       labelled-are = ap (λ l. labelled (map event l)) (sym (rest-all input));
     })
 
-refusal-on : (r : Run) (k : ℕ) (bs : List ℕ) (rs : List (List ℕ)) → firstFault (recordChecks r bs) ≡ 0 → firstRefusal r k (bs ∷ rs) ≡ firstRefusal (onwards r (event bs)) (suc k) rs
+pub refusal-on : (r : Run) (k : ℕ) (bs : List ℕ) (rs : List (List ℕ)) → firstFault (recordChecks r bs) ≡ 0 → firstRefusal r k (bs ∷ rs) ≡ firstRefusal (onwards r (event bs)) (suc k) rs
 unfolding firstRefusal
 refusal-on r k bs rs q = rw (q, firstRefusal)
 
-refusal-at : (r : Run) (k : ℕ) (bs : List ℕ) (rs : List (List ℕ)) (n : ℕ) → firstFault (recordChecks r bs) ≡ suc n
+pub refusal-at : (r : Run) (k : ℕ) (bs : List ℕ) (rs : List (List ℕ)) (n : ℕ) → firstFault (recordChecks r bs) ≡ suc n
     → firstRefusal r k (bs ∷ rs) ≡ record { number = suc n; place = k }
 unfolding firstRefusal
 refusal-at r k bs rs n q = rw (q, firstRefusal)
