@@ -71,11 +71,11 @@ verdict-violation : (es : List Event) (k : ℕ) → shortest es ≡ suc k → ve
 unfolding verdict
 verdict-violation es k h = rw (h, verdict)
 
-named-serial : (es : List Event) → shortest es ≡ 0 → named es (shortest es) ≡ serialOrder es
+pub named-serial : (es : List Event) → shortest es ≡ 0 → named es (shortest es) ≡ serialOrder es
 unfolding named
 named-serial es h = ap (named es) h
 
-named-cycle : (es : List Event) (k : ℕ) → shortest es ≡ suc k → named es (shortest es) ≡ cycleOf es (suc k)
+pub named-cycle : (es : List Event) (k : ℕ) → shortest es ≡ suc k → named es (shortest es) ≡ cycleOf es (suc k)
 unfolding named
 named-cycle es k h = ap (named es) h
 
