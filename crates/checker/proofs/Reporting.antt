@@ -1,18 +1,17 @@
 -- Laws of the whole promise: a recording that is refused, and one that is not.
-use Prim.Native.Nat.{ℕ, zero, suc, _+_, _-_, _*_, _/_, _%_, _≤_, _<_}
+use Prim.Native.Nat.{ℕ, zero, suc, _-_, _/_, _≤_}
 use native.Mathlib.Omega.{arith}
 use mathlib.Core.Path.{_≡_, refl, sym, ap, ap₂, _∙_, subst}
 use mathlib.Core.Logic.{_≢_}
 use mathlib.Core.Bool.{Bool, true, false, _&&_}
-use mathlib.Core.List.{List, [], _∷_, _++_, map}
-use lib.Dec.{T, eqb, leb}
+use mathlib.Core.List.{List, [], _∷_, map}
+use lib.Dec.{leb}
 use lib.ListN.{length, take, drop, replicate, length-append, length-drop}
 use lib.Seq.{take-append-seam}
-use borrow.Author.Tests.{eqb-true, leb-true, leb-false, le-leb}
+use borrow.Author.Tests.{leb-false, le-leb}
 use Rattle.record.specs.declared.Event.{Event}
-use Rattle.record.specs.Faults.{Check, check, firstFault}
+use Rattle.record.specs.Faults.{firstFault}
 use Rattle.record.specs.Record.{event}
-use Rattle.record.proofs.Laws.{none-first}
 use Rattle.trace.specs.Lists.{over}
 use Rattle.trace.proofs.Tests.{by}
 use Rattle.graph.specs.Transactions.{Tally, none-yet, begins, full, tallied, tallyFrom, transactions, labelled}
@@ -32,40 +31,9 @@ use Rattle.checker.specs.Examined.{Found}
 use Rattle.checker.specs.Concluded.{Ready, Concluded}
 use Rattle.checker.specs.Report.{reported}
 use Rattle.checker.specs.Report.{lines as lines-of}
+use Rattle.checker.proofs.Refusing.{Sized, sized, size-passed, refusal-on, refusal-at}
 use Rattle.checker.proofs.Looked.{parts-passed}
-use Rattle.checker.proofs.Scanned.{refusal-on, refusal-at}
 use Rattle.checker.proofs.Ending.{named-serial, named-cycle}
-
--- ---- Numbers 1 to 4
-
-pub record Sized (input out work : List ℕ) : Type 0 where
-  pub whole : length input % 8 ≡ 0
-  pub most : length input ≤ 8192
-  pub out-room : length input ≤ length out
-  pub work-room : 4096 ≤ length work
-
-pub sized : (input out work : List ℕ) → firstFault (sizeChecks input out work) ≡ 0 → Sized input out work
-unfolding sizeChecks
-sized input out work h =
-    let c1 = none-first 1 0 (eqb (length input % 8) 0) _ (omega arith) h in
-    let c2 = none-first 2 0 (leb (length input) 8192) _ (omega arith) (c1 .1) in
-    let c3 = none-first 3 0 (leb (length input) (length out)) _ (omega arith) (c2 .1) in
-    let c4 = none-first 4 0 (leb workSize (length work)) _ (omega arith) (c3 .1) in
-    record {
-      whole = eqb-true (length input % 8) 0 (c1 .0);
-      most = leb-true (length input) 8192 (c2 .0);
-      out-room = leb-true (length input) (length out) (c3 .0);
-      work-room = leb-true workSize (length work) (c4 .0);
-    }
-
-pub size-refused : (input out work : List ℕ) (n : ℕ) → firstFault (sizeChecks input out work) ≡ n → n ≢ 0 → refusal input out work ≡ record { number = n; place = 0 }
-unfolding refusal
-size-refused input out work zero h some = absurd (some refl)
-size-refused input out work (suc n) h some = rw (h, refusal)
-
-pub size-passed : (input out work : List ℕ) → firstFault (sizeChecks input out work) ≡ 0 → refusal input out work ≡ firstRefusal start 0 (recordsOf input)
-unfolding refusal
-size-passed input out work h = rw (h, refusal)
 
 -- ---- A recording that is refused, and one that isn't
 
