@@ -160,18 +160,22 @@ module _ (input out work : List ℕ) (passed : firstFault (sizeChecks input out 
       order-now : o ≡ over (named es (shortest es)) order
       order-now = ap (λ x. x .order) whole
 
+      pub order-long : length o ≡ 512
+      order-long =
+          let short : length (named es (shortest es)) ≤ length order = omega (arith, named-most es, at-most, long) in
+          ap length order-now ∙ over-size (named es (shortest es)) order short ∙ long
+
       pub ready : (lines : List ℕ) → 1536 ≤ length lines → es ≡ take (length input / 8) (e .all) → Ready a es (e .all) labels (length input / 8) o out lines
       ready lines room same =
           let s : Sized input out work = sized input out work passed in
           let n : length es ≡ length input / 8 = ap length is ∙ events-size in
-          let short : length (named es (shortest es)) ≤ length order = omega (arith, named-most es, at-most, long) in
           record {
             size = n;
             most = omega (arith, s .most);
             labelled-are = f .labelled-are none ∙ ap labelled (sym is);
             few = at-most;
             found-is = ap (λ x. x .answer) whole;
-            order-size = omega (arith, ap length order-now, over-size (named es (shortest es)) order short, long);
+            order-size = omega (arith, order-long);
             order-is = ap (take (length (named es (shortest es)))) order-now ∙ over-front (named es (shortest es)) order;
             out-room = omega (arith, s .out-room);
             lines-room = room;
