@@ -81,6 +81,25 @@ module _ (r : Run) (bs : List ℕ) where
   unfolding firstFault
   no-fault h q f = event-passed h q ∙ ap (λ t. firstFault (room t)) f
 
+  -- a record without a fault passes all three parts
+  pub parts-passed : firstFault (recordChecks r bs) ≡ 0
+      → (firstFault (Record.checks bs) ≡ 0) × (faultOf (r .state) (event bs) ≡ 0) × (full (r .tally) (event bs) ≡ false)
+  parts-passed h = form (firstFault (Record.checks bs)) refl
+    where
+      last : firstFault (Record.checks bs) ≡ 0 → faultOf (r .state) (event bs) ≡ 0 → (t : Bool) → full (r .tally) (event bs) ≡ t → full (r .tally) (event bs) ≡ false
+      last p q true f = absurd (omega (arith, h, full-fault p q f))
+      last p q false f = f
+
+      acts : firstFault (Record.checks bs) ≡ 0 → (n : ℕ) → faultOf (r .state) (event bs) ≡ n
+          → (firstFault (Record.checks bs) ≡ 0) × (faultOf (r .state) (event bs) ≡ 0) × (full (r .tally) (event bs) ≡ false)
+      acts p zero q = (p, q, last p q (full (r .tally) (event bs)) refl)
+      acts p (suc n) q = absurd (omega (arith, h, event-fault (suc n) p q (λ z. absurd (omega arith))))
+
+      form : (n : ℕ) → firstFault (Record.checks bs) ≡ n
+          → (firstFault (Record.checks bs) ≡ 0) × (faultOf (r .state) (event bs) ≡ 0) × (full (r .tally) (event bs) ≡ false)
+      form zero p = acts p (faultOf (r .state) (event bs)) refl
+      form (suc n) p = absurd (omega (arith, h, form-fault (suc n) p (λ z. absurd (omega arith))))
+
 -- ---- What is seen
 
 seen-faulty : (r : Run) (bs : List ℕ) (n : ℕ) → firstFault (recordChecks r bs) ≡ suc n → seen r bs ≡ Faulty (suc n)

@@ -20,6 +20,7 @@ use Rattle.checker.specs.declared.examining.Seen.the-variants.{Sound, Fa
 use Rattle.checker.specs.declared.examining.Examined.{Examined}
 use Rattle.checker.specs.Refusals.{Run, start, onwards, recordChecks, records, recordsOf, Fault, noFault, firstRefusal, events}
 use Rattle.checker.specs.Examined.{runOf, Saw, Found}
+use Rattle.checker.proofs.Refusing.{refusal-on, refusal-at}
 use Rattle.checker.proofs.Looked.{Taken, taken, Stopped, stopped}
 
 -- ---- The records from one on
@@ -88,15 +89,6 @@ under-start input s all labels h =
       events-are = ap (map event) (sym (rest-all input));
       labelled-are = ap (λ l. labelled (map event l)) (sym (rest-all input));
     })
-
-refusal-on : (r : Run) (k : ℕ) (bs : List ℕ) (rs : List (List ℕ)) → firstFault (recordChecks r bs) ≡ 0 → firstRefusal r k (bs ∷ rs) ≡ firstRefusal (onwards r (event bs)) (suc k) rs
-unfolding firstRefusal
-refusal-on r k bs rs q = rw (q, firstRefusal)
-
-refusal-at : (r : Run) (k : ℕ) (bs : List ℕ) (rs : List (List ℕ)) (n : ℕ) → firstFault (recordChecks r bs) ≡ suc n
-    → firstRefusal r k (bs ∷ rs) ≡ record { number = suc n; place = k }
-unfolding firstRefusal
-refusal-at r k bs rs n q = rw (q, firstRefusal)
 
 module _ (input : List ℕ) (r : Run) (all : List Event) (labels : List ℕ) (i : ℕ) (more : i < length input / 8) (bs : List ℕ) (is : bs ≡ take 8 (drop (8 * i) input)) where
   next : restFrom input i ≡ bs ∷ restFrom input (suc i)

@@ -5,4 +5,5 @@ pub mod Demand3
 pub mod Report
 pub mod Examined
 pub mod Writing
+pub mod Concluded
 pub mod Examples

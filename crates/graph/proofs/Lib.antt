@@ -6,6 +6,7 @@ pub mod Numbers
 pub mod Labels
 pub mod Serializable
 pub mod Demand3
+pub mod Sizes
 pub mod Steps
 pub mod Round
 pub mod Meaning

@@ -1,0 +1,172 @@
+-- Laws of the end of a judgement: what is to be written fits, and is what the definitions name.
+use Prim.Native.Nat.{ℕ, zero, suc, _+_, _*_, _≤_}
+use native.Mathlib.Omega.{arith}
+use mathlib.Core.Path.{_≡_, refl, sym, ap, ap₂, _∙_, subst}
+use mathlib.Core.List.{List, [], _∷_, _++_, append-assoc}
+use lib.ListN.{length, take, length-append}
+use lib.Seq.{length-take-le}
+use Rattle.record.specs.declared.Event.{Event}
+use Rattle.record.specs.Record.{encoded, inTwo}
+use Rattle.record.proofs.Laws.{length-encoded}
+use Rattle.trace.specs.Lists.{each, over}
+use Rattle.graph.specs.declared.Arranged.{Arranged}
+use Rattle.graph.specs.declared.Arranged.the-variants.{Unfit, Ordered, Cyclic}
+use Rattle.graph.specs.Transactions.{Labelled, labelled, transactions}
+use Rattle.graph.specs.Serial.{eventsOf, threadOf, serialOrder, serialTrace}
+use Rattle.graph.specs.Violation.{shortest, cycleOf}
+use Rattle.graph.specs.Arranged.{named, found}
+use Rattle.graph.specs.Engine.{held}
+use Rattle.graph.proofs.Sizes.{order-size, trace-size, cycle-most, transactions-most}
+use Rattle.checker.specs.declared.Answer.{Answer}
+use Rattle.checker.specs.declared.Answer.the-variants.{Cooperable, Violation}
+use Rattle.checker.specs.Verdict.{numbers, verdict, cooperable, violation}
+use Rattle.checker.specs.Report as Report
+use Rattle.checker.specs.Writing.{bytesOf, lineOf}
+use Rattle.checker.specs.Concluded.{Ready, Concluded}
+
+-- ---- Each of each
+
+each-append : {A B : Type 0} (f : A → List B) (l m : List A) → each f (l ++ m) ≡ each f l ++ each f m
+unfolding each
+each-append f [] m = refl
+each-append f (x ∷ l) m = ap (λ r. f x ++ r) (each-append f l m) ∙ sym (append-assoc (f x) (each f l) (each f m))
+
+each-each : {A B C : Type 0} (f : B → List C) (g : A → List B) (l : List A) → each (λ x. each f (g x)) l ≡ each f (each g l)
+unfolding each
+each-each f g [] = refl
+each-each f g (x ∷ l) = ap (λ r. each f (g x) ++ r) (each-each f g l) ∙ sym (each-append f (g x) (each g l))
+
+encoded-size : (es : List Event) → length (each encoded es) ≡ 8 * length es
+unfolding each
+encoded-size [] = refl
+encoded-size (e ∷ es) =
+    length-append (encoded e) (each encoded es)
+    ∙ (let a : length (encoded e) ≡ 8 = length-encoded e in let b : length (each encoded es) ≡ 8 * length es = encoded-size es in omega arith)
+
+-- ---- What was found
+
+found-ordered : (es : List Event) (p t : ℕ) → Ordered t ≡ found es p → (p ≡ 0) × (t ≡ transactions es)
+unfolding found
+found-ordered es zero t h = (refl, cc h)
+found-ordered es (suc k) t h = let z : _≡_ {A = ℕ} 0 1 = cc h in absurd (omega arith)
+
+found-cyclic : (es : List Event) (p k n : ℕ) → Cyclic k n ≡ found es p → (p ≡ suc k) × (n ≡ length (cycleOf es (suc k)))
+unfolding found
+found-cyclic es zero k n h = let z : _≡_ {A = ℕ} 0 1 = cc h in absurd (omega arith)
+found-cyclic es (suc j) k n h =
+    let q : k ≡ j = cc h in
+    let m : n ≡ length (cycleOf es (suc j)) = cc h in
+    (ap suc (sym q), m ∙ ap (λ i. length (cycleOf es (suc i))) (sym q))
+
+pub found-unfit : {C : Type 0} (es : List Event) (p : ℕ) → Unfit ≡ found es p → C
+unfolding found
+found-unfit es zero h = let z : _≡_ {A = ℕ} 0 1 = cc h in absurd (omega arith)
+found-unfit es (suc k) h = let z : _≡_ {A = ℕ} 0 1 = cc h in absurd (omega arith)
+
+verdict-cooperable : (es : List Event) → shortest es ≡ 0 → verdict es ≡ cooperable es
+unfolding verdict
+verdict-cooperable es h = rw (h, verdict)
+
+verdict-violation : (es : List Event) (k : ℕ) → shortest es ≡ suc k → verdict es ≡ violation es k
+unfolding verdict
+verdict-violation es k h = rw (h, verdict)
+
+pub named-serial : (es : List Event) → shortest es ≡ 0 → named es (shortest es) ≡ serialOrder es
+unfolding named
+named-serial es h = ap (named es) h
+
+pub named-cycle : (es : List Event) (k : ℕ) → shortest es ≡ suc k → named es (shortest es) ≡ cycleOf es (suc k)
+unfolding named
+named-cycle es k h = ap (named es) h
+
+-- ---- What is written
+
+module _ (a : Arranged) (es all : List Event) (labels : List ℕ) (count : ℕ) (order out lines : List ℕ) (r : Ready a es all labels count order out lines) where
+  -- by arrays as by events
+  lines-are : (l : List ℕ) → each (lineOf count all labels) l ≡ each (Report.line es) l
+  unfolding lineOf Report.line
+  lines-are l = ap (λ xs. each (λ a. a ∷ threadOf xs a ∷ Report.firstRecord 0 xs a ∷ []) l) (r .labelled-are)
+
+  bytes-are : (l : List ℕ) → each (bytesOf count all labels) l ≡ each encoded (each (eventsOf (labelled es)) l)
+  unfolding bytesOf
+  bytes-are l = each-each encoded (eventsOf (held count all labels)) l ∙ ap (λ xs. each encoded (each (eventsOf xs) l)) (r .labelled-are)
+
+  -- the named transactions stand at the front of the order, and each has its line
+  front-named : (n : ℕ) → n ≡ length (named es (shortest es)) → take n order ≡ named es (shortest es)
+  front-named n h = ap (λ k. take k order) h ∙ r .order-is
+
+  lines-named : (n : ℕ) (lines′ : List ℕ) → n ≡ length (named es (shortest es)) → lines′ ≡ over (each (lineOf count all labels) (take n order)) lines
+      → lines′ ≡ over (Report.lines es) lines
+  unfolding Report.lines
+  lines-named n lines′ h q = q ∙ ap (λ l. over l lines) (lines-are (take n order) ∙ ap (each (Report.line es)) (front-named n h))
+
+  -- there is room for the lines of at most 512
+  front-size : (n : ℕ) → n ≤ 512 → n ≡ length (take n order)
+  front-size n h = sym (length-take-le n order (omega (arith, r .order-size)))
+
+  pub lines-fit : (n : ℕ) → n ≤ 512 → 3 * length (take n order) ≤ length lines
+  lines-fit n h = omega (arith, front-size n h, r .lines-room)
+
+  -- Ordered: all transactions, in serial order
+  module _ (t : ℕ) (is : a ≡ Ordered t) where
+    none : shortest es ≡ 0
+    none = found-ordered es (shortest es) t (sym is ∙ r .found-is) .0
+
+    pub all-few : t ≤ 512
+    all-few = omega (arith, found-ordered es (shortest es) t (sym is ∙ r .found-is) .1, r .few)
+
+    all-named : t ≡ length (named es (shortest es))
+    all-named = found-ordered es (shortest es) t (sym is ∙ r .found-is) .1 ∙ sym (order-size es none) ∙ ap length (sym (named-serial es none))
+
+    trace-is : each (bytesOf count all labels) (take t order) ≡ each encoded (serialTrace es)
+    unfolding serialTrace
+    trace-is = bytes-are (take t order) ∙ ap (λ l. each encoded (each (eventsOf (labelled es)) l)) (front-named t all-named ∙ named-serial es none)
+
+    pub all-size : t ≡ length (take t order)
+    all-size = front-size t all-few
+
+    pub trace-fits : length (each (bytesOf count all labels) (take t order)) ≤ length out
+    trace-fits = omega (arith, ap length trace-is, encoded-size (serialTrace es), trace-size es none, r .size, r .out-room)
+
+    pub concluded-cooperable : (out′ lines′ : List ℕ) → out′ ≡ over (each (bytesOf count all labels) (take t order)) out
+        → lines′ ≡ over (each (lineOf count all labels) (take t order)) lines → Concluded es out lines out′ lines′ (Cooperable count t)
+    unfolding cooperable
+    concluded-cooperable out′ lines′ p q =
+        let v = verdict-cooperable es none in
+        record {
+          answer = ap₂ (λ (x y : ℕ). record { kind = 0; first = x; second = y }) (sym (r .size)) (found-ordered es (shortest es) t (sym is ∙ r .found-is) .1)
+              ∙ ap (λ x. x .answer) (sym v);
+          written = p ∙ ap (λ l. over l out) (trace-is ∙ ap (λ x. x .written) (sym v));
+          told = lines-named t lines′ all-named q;
+        }
+
+  -- Cyclic: the cycle
+  module _ (k n : ℕ) (is : a ≡ Cyclic k n) where
+    some : shortest es ≡ suc k
+    some = found-cyclic es (shortest es) k n (sym is ∙ r .found-is) .0
+
+    long : n ≡ length (cycleOf es (suc k))
+    long = found-cyclic es (shortest es) k n (sym is ∙ r .found-is) .1
+
+    pub cycle-few : n ≤ 512
+    cycle-few = omega (arith, long, cycle-most es (suc k), r .few)
+
+    cycle-named : n ≡ length (named es (shortest es))
+    cycle-named = long ∙ ap length (sym (named-cycle es k some))
+
+    pub cycle-size : n ≡ length (take n order)
+    cycle-size = front-size n cycle-few
+
+    pub cycle-fits : 2 * length (take n order) ≤ length out
+    cycle-fits = omega (arith, cycle-size, long, cycle-most es (suc k), transactions-most es, r .size, r .out-room)
+
+    pub concluded-violation : (out′ lines′ : List ℕ) → out′ ≡ over (each inTwo (take n order)) out
+        → lines′ ≡ over (each (lineOf count all labels) (take n order)) lines → Concluded es out lines out′ lines′ (Violation k n)
+    unfolding violation
+    concluded-violation out′ lines′ p q =
+        let v = verdict-violation es k some in
+        record {
+          answer = ap (λ x. record { kind = 1; first = k; second = x }) long ∙ ap (λ x. x .answer) (sym v);
+          written = p ∙ ap (λ l. over l out) (ap (each inTwo) (front-named n cycle-named ∙ named-cycle es k some) ∙ ap (λ x. x .written) (sym v));
+          told = lines-named n lines′ cycle-named q;
+        }
