@@ -1,5 +1,5 @@
--- Document 01's examples of events alone, as one table, proved of the definitions by computing them: what the graph makes of P3 to P9, and of
--- 01's first slip, where an earlier reader's edge to the next write would be lost.
+-- Document 01's examples of events alone, as one table, proved of the definitions by computing them: what the graph makes of P3 to P9, of
+-- 01's first slip, where an earlier reader's edge to the next write would be lost, and of a join that mustn't be swapped in front of its fork.
 use Prim.Native.Nat.{ℕ}
 use mathlib.Core.Path.{_≡_, refl}
 use mathlib.Core.List.{List, [], _∷_, map}
@@ -63,6 +63,9 @@ table =
     ∷ example
     (by 0 (Fork 1) ∷ by 0 (Fork 2) ∷ by 0 Yield ∷ by 0 (Read 0 0) ∷ by 1 (Read 0 0) ∷ by 2 (Write 0 1) ∷ by 2 (Write 1 1) ∷ by 0 (Read 1 1) ∷ [])
     (0 ∷ 0 ∷ 0 ∷ 1 ∷ 2 ∷ 3 ∷ 3 ∷ 1 ∷ []) 8 (1 ∷ 3 ∷ [])
+    -- a thread that did nothing, forked by one thread and joined by another
+    ∷ example (by 0 (Fork 1) ∷ by 1 (Fork 2) ∷ by 0 (Join 2) ∷ [])
+    (0 ∷ 1 ∷ 2 ∷ []) 0 (0 ∷ 1 ∷ 2 ∷ [])
     ∷ []
 
 -- the definitions give what a row says
@@ -76,4 +79,4 @@ All P (x ∷ xs) = P x × All P xs
 pub examples : All Right table
 unfolding Record.opened Lists.opened Paths.opened Order.opened Conflict.opened Transactions.opened Edges.opened Serial.opened Violation.opened Arranged.opened
 examples =
-    ((refl, refl, refl), ((refl, refl, refl), ((refl, refl, refl), ((refl, refl, refl), ((refl, refl, refl), ((refl, refl, refl), ((refl, refl, refl), ((refl, refl, refl), tt))))))))
+    ((refl, refl, refl), ((refl, refl, refl), ((refl, refl, refl), ((refl, refl, refl), ((refl, refl, refl), ((refl, refl, refl), ((refl, refl, refl), ((refl, refl, refl), ((refl, refl, refl), tt)))))))))
