@@ -1,0 +1,7 @@
+/* The kit's compiler comes without headers: this much of the standard one is enough here. */
+#ifndef BENCH_STDINT_H
+#define BENCH_STDINT_H
+typedef __UINT8_TYPE__ uint8_t;
+typedef __UINT16_TYPE__ uint16_t;
+typedef __UINT64_TYPE__ uint64_t;
+#endif

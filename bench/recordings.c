@@ -1,0 +1,131 @@
+/* Makes the recordings that are measured. Each is the same on every machine. */
+
+#include "recordings.h"
+
+enum { READ = 1, WRITE, ACQUIRE, RELEASE, PREWAIT, POSTWAIT, NOTIFY, FORK, JOIN, YIELD };
+
+static void add(struct recording *r, unsigned thread, unsigned kind, unsigned target, unsigned value) {
+    uint8_t *at = r->bytes + 8 * r->records++;
+    at[0] = 0xA7;
+    at[1] = 0x7A;
+    at[2] = (uint8_t)kind;
+    at[3] = (uint8_t)thread;
+    at[4] = (uint8_t)target;
+    at[5] = 0;
+    at[6] = (uint8_t)value;
+    at[7] = (uint8_t)(value >> 8);
+}
+
+static unsigned next_number(uint64_t *state, unsigned limit) {
+    *state = *state * 6364136223846793005u + 1442695040888963407u;
+    return (unsigned)(*state >> 33) % limit;
+}
+
+/* Thread 0 forks the others, and yields. */
+static void begin(struct recording *r, unsigned threads) {
+    r->records = 0;
+    for (unsigned thread = 1; thread < threads; thread++) add(r, 0, FORK, thread, 0);
+    add(r, 0, YIELD, 0, 0);
+}
+
+/* Six threads, eight locks: acquire, read, write, release, yield, mixed with the others'.
+   Each section keeps to one lock and one variable, so the recording is cooperable. */
+static void typical(struct recording *r, size_t records) {
+    enum { USED_THREADS = 6, USED_LOCKS = 8 };
+    unsigned place[USED_THREADS] = {0}, lock[USED_THREADS] = {0};
+    unsigned held[USED_LOCKS] = {0}, value[USED_LOCKS] = {0};
+    uint64_t state = 1;
+    begin(r, USED_THREADS);
+    while (r->records < records) {
+        unsigned thread = next_number(&state, USED_THREADS);
+        if (place[thread] == 0) {
+            lock[thread] = next_number(&state, USED_LOCKS);
+            if (held[lock[thread]]) continue;
+        }
+        unsigned m = lock[thread];
+        switch (place[thread]) {
+        case 0: add(r, thread, ACQUIRE, m, 0); held[m] = 1; break;
+        case 1: add(r, thread, READ, m, value[m]); break;
+        case 2: value[m] = next_number(&state, 1000); add(r, thread, WRITE, m, value[m]); break;
+        case 3: add(r, thread, RELEASE, m, 0); held[m] = 0; break;
+        default: add(r, thread, YIELD, 0, 0); break;
+        }
+        place[thread] = (place[thread] + 1) % 5;
+    }
+}
+
+/* Sixteen threads write one variable and yield: an edge between every two transactions. */
+static void dense(struct recording *r, size_t records) {
+    begin(r, 16);
+    for (unsigned turn = 0; r->records < records; turn++) {
+        add(r, turn % 16, WRITE, 0, turn);
+        if (r->records < records) add(r, turn % 16, YIELD, 0, 0);
+    }
+}
+
+/* Every transaction is on the cycle that the last record closes. */
+static void long_cycle(struct recording *r, size_t records) {
+    unsigned turn = 0;
+    r->records = 0;
+    add(r, 0, FORK, 1, 0);
+    add(r, 0, FORK, 2, 0);
+    for (; r->records + 4 <= records; turn++) {
+        add(r, 1 + turn % 2, WRITE, 1, turn);
+        add(r, 1 + turn % 2, YIELD, 0, 0);
+    }
+    add(r, 1, WRITE, 2, 1);
+    add(r, 0, READ, 2, 1);
+}
+
+/* The first record is of a thread that was never forked. */
+static void refused_early(struct recording *r, size_t records) {
+    typical(r, records);
+    r->bytes[3] = 15;
+}
+
+/* The last record reads a value that isn't there. */
+static void refused_late(struct recording *r, size_t records) {
+    typical(r, records - 1);
+    add(r, 0, READ, 255, 1);
+}
+
+static void empty(struct recording *r, size_t records) {
+    (void)records;
+    r->records = 0;
+}
+
+/* Sixteen threads read what is theirs alone and yield: many transactions, few edges. */
+static void many_yields(struct recording *r, size_t records) {
+    begin(r, 16);
+    for (unsigned turn = 0; r->records < records; turn++) {
+        add(r, turn % 16, READ, turn % 16, 0);
+        if (r->records < records) add(r, turn % 16, YIELD, 0, 0);
+    }
+}
+
+/* Each thread writes one variable again and again, and then the next does: all pairs conflict. */
+static void one_variable(struct recording *r, size_t records) {
+    begin(r, 16);
+    size_t first = r->records;
+    while (r->records < records)
+        add(r, (unsigned)(16 * (r->records - first) / (records - first)), WRITE, 0, 1);
+}
+
+/* The same writes in turn: a violation as soon as a thread comes round again. */
+static void one_variable_in_turn(struct recording *r, size_t records) {
+    begin(r, 16);
+    for (unsigned turn = 0; r->records < records; turn++) add(r, turn % 16, WRITE, 0, 1);
+}
+
+const struct shape shapes[] = {
+    {"typical", typical},
+    {"dense", dense},
+    {"long cycle", long_cycle},
+    {"many yields", many_yields},
+    {"one variable, by thread", one_variable},
+    {"one variable, in turn", one_variable_in_turn},
+    {"refused late", refused_late},
+    {"refused early", refused_early},
+    {"empty", empty},
+};
+const size_t shape_count = sizeof shapes / sizeof shapes[0];

@@ -1,0 +1,25 @@
+/* The recordings that are measured. */
+
+#ifndef RECORDINGS_H
+#define RECORDINGS_H
+
+#include <stddef.h>
+#include <stdint.h>
+
+enum { MOST_RECORDS = 1024 };
+
+struct recording {
+    uint8_t bytes[8 * MOST_RECORDS];
+    size_t records;
+};
+
+struct shape {
+    const char *name;
+    /* Makes a recording of exactly so many records, or of fewer where the shape says so. */
+    void (*make)(struct recording *, size_t records);
+};
+
+extern const struct shape shapes[];
+extern const size_t shape_count;
+
+#endif

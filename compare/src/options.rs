@@ -1,0 +1,40 @@
+//! What is asked for on the command line.
+
+const USAGE: &str =
+    "usage: compare [--count N] [--seed S] [--swaps N] [--program N] [--small N] [--fixed N]
+  --count N     random recordings through the library (150000)
+  --seed S      the seed of everything random (1)
+  --swaps N     small recordings held against every trace that swaps reach (5000)
+  --program N   random recordings through target/bin/judge (300); 0: the program is not run
+  --small N     all small histories (1); 2, 3, ..: longer ones; 0: none
+  --fixed N     the fixed recordings (1); 0: none";
+
+pub struct Options {
+    pub count: u64,
+    pub seed: u64,
+    pub swaps: u64,
+    pub program: u64,
+    pub small: usize,
+    pub fixed: u64,
+}
+
+impl Options {
+    pub fn read(mut words: impl Iterator<Item = String>) -> Result<Options, String> {
+        let mut options =
+            Options { count: 150_000, seed: 1, swaps: 5000, program: 300, small: 1, fixed: 1 };
+        while let Some(word) = words.next() {
+            let number = words.next().and_then(|n| n.parse::<u64>().ok());
+            let Some(number) = number else { return Err(USAGE.to_string()) };
+            match word.as_str() {
+                "--count" => options.count = number,
+                "--seed" => options.seed = number,
+                "--swaps" => options.swaps = number,
+                "--program" => options.program = number,
+                "--small" => options.small = number as usize,
+                "--fixed" => options.fixed = number,
+                _ => return Err(USAGE.to_string()),
+            }
+        }
+        Ok(options)
+    }
+}

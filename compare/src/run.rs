@@ -1,0 +1,178 @@
+//! The phases of a run, and what is said of a failing case.
+
+use std::time::Instant;
+
+use reference::words::words_of_bytes;
+
+use crate::case::Case;
+use crate::numbers::Numbers;
+use crate::options::Options;
+use crate::program::Program;
+use crate::shrink::shrink;
+use crate::small::alphabets;
+use crate::swapped::{outcome, Outcome};
+use crate::tally::Tally;
+use crate::{fixed, recordings, regressions};
+
+/// After so many failures a run stops: the first ones say enough.
+const MOST_FAILURES: u64 = 5;
+
+/// Says in words what a case shows to differ.
+type Differs<'a> = &'a dyn Fn(&Case) -> Option<String>;
+
+struct Run {
+    passed: u64,
+    failed: u64,
+    tally: Tally,
+    started: Instant,
+}
+
+/// Does all that is asked for; gives the number of failures.
+pub fn run(options: &Options) -> u64 {
+    println!("seed {}", options.seed);
+    let mut run = Run { passed: 0, failed: 0, tally: Tally::default(), started: Instant::now() };
+    run.regressions();
+    if options.fixed > 0 {
+        run.phase("fixed recordings", |run| {
+            let inputs = fixed::recordings().into_iter().chain(fixed::limits_of_fields());
+            inputs.for_each(|input| run.library(Case::plain(input)));
+        });
+    }
+    if options.small > 0 {
+        run.phase("small histories", |run| run.small(options.small));
+    }
+    run.phase("random recordings", |run| run.random(options.count, options.seed));
+    run.phase("recordings and all their swaps", |run| run.swaps(options.swaps, options.seed));
+    if options.program > 0 {
+        run.phase("runs of the program", |run| run.program(options.program, options.seed));
+    }
+    run.tally.print();
+    // A run of full size has to have met every refusal at every kind of record.
+    if run.failed == 0 && options.fixed > 0 && options.count >= 100_000 {
+        for missing in run.tally.never_seen() {
+            println!("never seen: {missing}");
+            run.failed += 1;
+        }
+    }
+    println!("{} passed, {} failed", run.passed, run.failed);
+    run.failed
+}
+
+impl Run {
+    fn phase(&mut self, name: &str, work: impl FnOnce(&mut Run)) {
+        let before = self.passed + self.failed;
+        if self.failed < MOST_FAILURES {
+            work(self);
+        }
+        let done = self.passed + self.failed - before;
+        println!("{done} {name}, at {:.1} s", self.started.elapsed().as_secs_f64());
+    }
+
+    fn regressions(&mut self) {
+        let kept = regressions::kept().expect("the kept cases can be read");
+        self.phase("kept cases", |run| kept.into_iter().for_each(|(_, case)| run.library(case)));
+    }
+
+    fn library(&mut self, case: Case) {
+        if self.failed >= MOST_FAILURES {
+            return;
+        }
+        match case.compared() {
+            Ok(answer) => {
+                self.passed += 1;
+                self.tally.count(&case.input, &answer);
+            }
+            Err(_) => self.fail(&case, &|case| case.compared().err()),
+        }
+    }
+
+    fn small(&mut self, depth: usize) {
+        for alphabet in alphabets(depth - 1) {
+            alphabet.visit(&mut |input| self.library(Case::plain(input)));
+        }
+    }
+
+    fn random(&mut self, count: u64, seed: u64) {
+        for place in 0..count {
+            // Each recording has a seed of its own, so that one that fails can be made again alone.
+            let mut numbers =
+                Numbers::from_seed(seed.wrapping_mul(0x1_0000_0001).wrapping_add(place));
+            let input = recordings::any(&mut numbers);
+            self.library(Case::with_lengths_of_all_sorts(input, &mut numbers));
+        }
+    }
+
+    fn swaps(&mut self, count: u64, seed: u64) {
+        let mut numbers = Numbers::from_seed(!seed);
+        let (mut cooperable_ones, mut violations) = (0, 0);
+        while cooperable_ones + violations < count && self.failed < MOST_FAILURES {
+            let case = Case::plain(recordings::small(&mut numbers));
+            match outcome(&case.input) {
+                Outcome::NotExplored => continue,
+                Outcome::Agrees { cooperable: true } => cooperable_ones += 1,
+                Outcome::Agrees { cooperable: false } => violations += 1,
+                Outcome::Differs(_) => self.fail(&case, &swaps_differ),
+            }
+        }
+        self.passed += cooperable_ones + violations;
+        println!("of all swaps explored: {cooperable_ones} cooperable, {violations} violations");
+    }
+
+    fn program(&mut self, count: u64, seed: u64) {
+        let program = match Program::find() {
+            Ok(program) => program,
+            Err(said) => {
+                println!("{said}");
+                self.failed += 1;
+                return;
+            }
+        };
+        let mut numbers = Numbers::from_seed(seed.rotate_left(32));
+        let kept = regressions::kept().expect("the kept cases can be read");
+        let mut inputs: Vec<Vec<u8>> = kept.into_iter().map(|(_, case)| case.input).collect();
+        inputs.extend(fixed::recordings());
+        inputs.extend((0..count).map(|_| recordings::any(&mut numbers)));
+        for (place, input) in inputs.into_iter().enumerate() {
+            // Now and then the input comes in pieces, as a pipe may give it.
+            let pieces = if place % 8 == 0 { 3 } else { 1 };
+            let case = Case::plain(input);
+            if self.failed < MOST_FAILURES {
+                self.check(&case, &|case| program.difference(&case.input, pieces));
+            }
+        }
+    }
+
+    fn check(&mut self, case: &Case, differs: Differs) {
+        match differs(case) {
+            None => self.passed += 1,
+            Some(_) => self.fail(case, differs),
+        }
+    }
+
+    fn fail(&mut self, case: &Case, differs: Differs) {
+        self.failed += 1;
+        println!("failed after {} that passed", self.passed);
+        let small = shrink(case, &|candidate| differs(candidate).is_some());
+        show(&small, differs);
+    }
+}
+
+fn swaps_differ(case: &Case) -> Option<String> {
+    match outcome(&case.input) {
+        Outcome::Differs(said) => Some(said),
+        _ => None,
+    }
+}
+
+/// Prints a failing case in words and keeps it.
+fn show(case: &Case, differs: Differs) {
+    println!("output {} bytes, work area {} numbers", case.out_length, case.work_length);
+    for record in case.input.chunks(8) {
+        println!("  {}", words_of_bytes(record));
+    }
+    println!("{}", differs(case).unwrap_or_else(|| "it fails now and then".to_string()));
+    match regressions::keep(case) {
+        Ok(name) => println!("kept as compare/regressions/{name}"),
+        Err(error) => println!("it could not be kept: {error}"),
+    }
+}
