@@ -28,10 +28,11 @@ fn note_from(all: [Event; 1024], labels: &[u16], i: usize, count: usize, noted: 
 {
     let a = labels[i];
     let e = all[i];
+    let table = crate::compare::TABLE;
     let mut j = i + 1;
     while j < count {
         let b = labels[j];
-        if a != b && crate::conflicts(e, all[j]) {
+        if a != b && crate::compare::conflicts_by(&table, e, all[j]) {
             noted[b as usize] = 1;
         }
         j += 1;

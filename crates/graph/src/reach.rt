@@ -7,6 +7,7 @@ ghost use Prim.Native.Nat.{suc, _≤_, _<_};
 ghost use lib.ListN.{length, getD, drop};
 ghost use Rattle.trace.specs.Paths.{cyclic};
 ghost use Rattle.rows.specs.Bits.{has, joined};
+ghost use Rattle.graph.specs.Conflict as Conflict;
 ghost use Rattle.graph.specs.Edges.{makes, edges};
 ghost use Rattle.graph.specs.Engine.{labelledAs, held, Few, Stands, Spread, Closed, Sought};
 
@@ -24,11 +25,18 @@ pub fn begin(work: &mut [u64])
     }
 }
 
-// Row t is joined into the row of each transaction that t reaches.
+// Row t is joined into the row of each transaction that t reaches. What is asked first always holds: with it the compiler sees that every test
+// of the loop lies in the work area.
 fn spread(work: &mut [u64], t: u16)
     requires { ⌜ (4096 ≤ length (now work)) × (t < 512) ⌝ }
     ensures { λ _. ⌜ Spread t (now (work .entry)) (now (work .exit)) ⌝ }
 {
+    if t >= 512 {
+        return;
+    }
+    if work.len() < 4096 {
+        return;
+    }
     let mut d: u16 = 0;
     while d < 512 {
         if rows::test(work, d, t) {
@@ -40,14 +48,22 @@ fn spread(work: &mut [u64], t: u16)
 
 // Takes into row t the edge that event e of transaction s, which stands before `last` of transaction t, makes, if it makes one; and says
 // whether t reaches s, so that the edge closes a cycle.
-fn take_edge(work: &mut [u64], e: Event, s: u16, last: Event, t: u16) -> bool
+fn take_edge(
+    table: &[[u8; 10]; 10],
+    work: &mut [u64],
+    e: Event,
+    s: u16,
+    last: Event,
+    t: u16,
+) -> bool
+    requires { ⌜ now table ≡ Conflict.table ⌝ }
     ensures { λ r. ⌜ r ≡ (makes (labelledAs s e) (labelledAs t last) && has (now (work .entry)) s t) ⌝ }
     ensures { λ _. ⌜ now (work .exit) ≡ cond (makes (labelledAs s e) (labelledAs t last)) (joined (now (work .entry)) t s) (now (work .entry)) ⌝ }
 {
     if s == t {
         return false;
     }
-    if crate::conflicts(e, last) {
+    if crate::compare::conflicts_by(table, e, last) {
         let closes = rows::test(work, s, t);
         rows::join(work, t, s);
         return closes;
@@ -64,10 +80,11 @@ fn close_record(work: &mut [u64], all: [Event; 1024], labels: &[u16; 1024], k: u
 {
     let t = labels[k];
     let last = all[k];
+    let table = crate::compare::TABLE;
     let mut found = false;
     let mut i = 0;
     while i < k {
-        if take_edge(work, all[i], labels[i], last, t) {
+        if take_edge(&table, work, all[i], labels[i], last, t) {
             found = true;
         }
         i += 1;

@@ -6,6 +6,7 @@ use mathlib.Core.Path.{_≡_, refl, ap, _∙_}
 use mathlib.Core.Logic.{⊎-elim}
 use borrow.Author.Needs.{needs}
 use lib.ListN.{length, getD, length-set}
+use Rattle.graph.specs.Conflict.{table}
 use Rattle.graph.specs.Engine.{recordAt}
 use Rattle.graph.proofs.Noted.{foundAfter, noted-made, noted-none, noted-record}
 use Rattle.graph.proofs.Standing.{makes-own, makes-by}
@@ -13,12 +14,12 @@ use Rattle.graph.proofs.cycle.note_from.Statement.{statement}
 use Rattle.graph.proofs.cycle.note_from.Tie as tie
 
 abbrev Inv-loop : tie.InvT-loop
-Inv-loop labels i count noted₀ all a e j₀ noted j =
+Inv-loop labels i count noted₀ all a e codes j₀ noted j =
     (i < j) × (j ≤ count) × (length noted ≡ length noted₀)
     × ((b : ℕ) → foundAfter count all labels i j noted b ≡ foundAfter count all labels i (suc i) noted₀ b)
 
 abbrev μ-loop : tie.MeasureT-loop
-μ-loop labels i count noted₀ all a e j₀ noted j = count - j
+μ-loop labels i count noted₀ all a e codes j₀ noted j = count - j
 
 mul-a : tie.Need-mul-a Inv-loop μ-loop
 mul-a c = omega arith
@@ -46,21 +47,22 @@ mul-b c = omega arith
 shared-slice-read-b : tie.Need-shared-slice-read-b Inv-loop μ-loop
 shared-slice-read-b c = omega arith
 
-mul-conflicts : tie.Need-mul-conflicts Inv-loop μ-loop
-mul-conflicts c = omega arith
+mul-conflicts-by : tie.Need-mul-conflicts-by Inv-loop μ-loop
+mul-conflicts-by c = omega arith
 
-array-copy-out-conflicts : tie.Need-array-copy-out-conflicts Inv-loop μ-loop
-array-copy-out-conflicts c = omega arith
+array-copy-out-conflicts-by : tie.Need-array-copy-out-conflicts-by Inv-loop μ-loop
+array-copy-out-conflicts-by c = omega arith
 
-conflicts-requires : tie.Need-conflicts-requires Inv-loop μ-loop
-conflicts-requires c κs = search needs
+conflicts-by-requires : tie.Need-conflicts-by-requires Inv-loop μ-loop
+unfolding table
+conflicts-by-requires c κs = refl
 
 cast-noted : tie.Need-cast-noted Inv-loop μ-loop
-cast-noted c = omega (arith, c .before .before .before .before .shared-slice-known3 .given (c .before .before .before .before .before .before .loop .j))
+cast-noted c = omega (arith, c .before .before .before .before .before .shared-slice-known3 .given (c .before .before .before .before .before .before .before .loop .j))
 
 slice-write-noted : tie.Need-slice-write-noted Inv-loop μ-loop
 slice-write-noted c =
-    let at = c .before .before .before .before .before .before in
+    let at = c .before .before .before .before .before .before .before in
     omega (arith, at .before .before .before .before .before .pre .1 .0 (at .loop .j) (omega arith))
 
 add-j-2 : tie.Need-add-j-2 Inv-loop μ-loop
@@ -82,12 +84,12 @@ loop-again c =
     let k : getD ls j 0 < length l = omega (arith, s .pre .1 .0 j (omega arith)) in (
       omega arith,
       omega arith,
-      ⊎-elim (λ w. ap length (w .4) ∙ length-set l (getD ls j 0) 1 ∙ at .loop .inv .2) (λ w. ap length (w .1) ∙ at .loop .inv .2) (c .if1 .came),
+      ⊎-elim (λ w. ap length (w .5) ∙ length-set l (getD ls j 0) 1 ∙ at .loop .inv .2) (λ w. ap length (w .1) ∙ at .loop .inv .2) (c .if1 .came),
       λ b. ⊎-elim
-          (λ w. ap (λ v. foundAfter n es ls i (j + 1) v b) (w .4) ∙ noted-made n es ls i j l b (omega arith) k
-          (makes-by (recordAt es ls j) (recordAt es ls i) (w .2 .result) (w .0 .taken) (w .2 .ensures) ∙ w .3 .taken) ∙ at .loop .inv .3 b)
+          (λ w. ap (λ v. foundAfter n es ls i (j + 1) v b) (w .5) ∙ noted-made n es ls i j l b (omega arith) k
+          (makes-by (recordAt es ls j) (recordAt es ls i) (w .3 .result) (w .0 .taken) (w .3 .ensures) ∙ w .4 .taken) ∙ at .loop .inv .3 b)
           (λ w. ap (λ v. foundAfter n es ls i (j + 1) v b) (w .1) ∙ noted-none n es ls i j l b (omega arith)
-          (⊎-elim (λ v. makes-by (recordAt es ls j) (recordAt es ls i) (v .2 .result) (v .0 .taken) (v .2 .ensures) ∙ v .3 .left) (λ v. makes-own (recordAt es ls j) (recordAt es ls i) (v .left)) (w .0 .came)) ∙ at .loop .inv .3 b)
+          (⊎-elim (λ v. makes-by (recordAt es ls j) (recordAt es ls i) (v .3 .result) (v .0 .taken) (v .3 .ensures) ∙ v .4 .left) (λ v. makes-own (recordAt es ls j) (recordAt es ls i) (v .left)) (w .0 .came)) ∙ at .loop .inv .3 b)
           (c .if1 .came),
     )
 
@@ -113,9 +115,9 @@ note-from-spec =
     loop-holds
     mul-b
     shared-slice-read-b
-    mul-conflicts
-    array-copy-out-conflicts
-    conflicts-requires
+    mul-conflicts-by
+    array-copy-out-conflicts-by
+    conflicts-by-requires
     cast-noted
     slice-write-noted
     add-j-2

@@ -3,11 +3,12 @@ use borrow.Author.Needs.{needs}
 use Prim.Native.Nat.{ℕ, suc, _≤_, _-_}
 use native.Mathlib.Omega.{arith}
 use native.Mathlib.Numerals.{add-one}
-use mathlib.Core.Path.{_≡_, sym, ap, _∙_, subst}
+use mathlib.Core.Path.{_≡_, refl, sym, ap, _∙_, subst}
 use mathlib.Core.Logic.{⊎-elim}
 use mathlib.Core.Bool.{Bool, _||_, or-true, or-false}
 use mathlib.Core.List.{List, [], _∷_, _++_}
 use lib.ListN.{getD}
+use Rattle.graph.specs.Conflict.{table}
 use Rattle.graph.specs.Edges.{edges}
 use Rattle.graph.specs.Engine.{recordAt, held, Few, Closed}
 use Rattle.graph.specs.Transactions.{Labelled}
@@ -17,10 +18,10 @@ use Rattle.graph.proofs.reach.close_record.Statement.{statement}
 use Rattle.graph.proofs.reach.close_record.Tie as tie
 
 abbrev Inv-loop : tie.InvT-loop
-Inv-loop work₀ labels k all t last found₀ i₀ work found i = (i ≤ k) × Gathered work₀ (recordAt all labels k) (held i all labels) work found
+Inv-loop work₀ labels k all t last codes found₀ i₀ work found i = (i ≤ k) × Gathered work₀ (recordAt all labels k) (held i all labels) work found
 
 abbrev μ-loop : tie.MeasureT-loop
-μ-loop work₀ labels k all t last found₀ i₀ work found i = k - i
+μ-loop work₀ labels k all t last codes found₀ i₀ work found i = k - i
 
 mul-t : tie.Need-mul-t Inv-loop μ-loop
 mul-t c = omega arith
@@ -53,7 +54,8 @@ element-copy-out-take-edge : tie.Need-element-copy-out-take-edge Inv-loop μ-loo
 element-copy-out-take-edge c = omega arith
 
 take-edge-requires : tie.Need-take-edge-requires Inv-loop μ-loop
-take-edge-requires c κs = search needs
+unfolding table
+take-edge-requires c κs = refl
 
 add-i : tie.Need-add-i Inv-loop μ-loop
 add-i c = omega arith
@@ -64,9 +66,9 @@ loop-less c = omega arith
 loop-again : tie.Need-loop-again Inv-loop μ-loop
 unfolding held
 loop-again c =
-    let at = c .before .before .before .before .before .before .before .before .loop in
-    let a = c .before .before .before .before .before .before .before .before .before .before .before .before .args in
-    let pre = c .before .before .before .before .before .before .before .before .before .before .before .before .pre in
+    let at = c .before .before .before .before .before .before .before .before .before .loop in
+    let a = c .before .before .before .before .before .before .before .before .before .before .before .before .before .args in
+    let pre = c .before .before .before .before .before .before .before .before .before .before .before .before .before .pre in
     let f = c .before .before .before .take-edge in
     let labels : List ℕ = a .labels .now in
     let few : Few (suc (a .k)) labels = pre .0 .1 in
@@ -76,10 +78,10 @@ loop-again c =
     (λ w. w .1 ∙ sym (ap (λ (b : Bool). at .found || b) (w .0 .left) ∙ or-false (at .found)))
     (c .if1 .came) in (
       omega arith,
-      subst (λ (n : ℕ). Gathered (a .work .now) (recordAt (a .t2) labels (a .k)) (held n (a .t2) labels) (f .last .0) (c .if1 .found)) (sym (add-one (at .i)))
-          (subst (λ (b : Bool). Gathered (a .work .now) (recordAt (a .t2) labels (a .k)) (held (suc (at .i)) (a .t2) labels) (f .last .0) b) (sym now-found)
+      subst (λ (n : ℕ). Gathered (a .work .now) (recordAt (a .t2) labels (a .k)) (held n (a .t2) labels) (f .last .1 .0) (c .if1 .found)) (sym (add-one (at .i)))
+          (subst (λ (b : Bool). Gathered (a .work .now) (recordAt (a .t2) labels (a .k)) (held (suc (at .i)) (a .t2) labels) (f .last .1 .0) b) (sym now-found)
           (gathered-step (a .work .now) (at .work) (recordAt (a .t2) labels (a .k)) (recordAt (a .t2) labels (at .i)) (held (at .i) (a .t2) labels) (at .found)
-          (pre .1 .0 .long) (few (a .k) (omega arith)) (few (at .i) (omega arith)) (at .inv .1) (f .last .0) (f .result) (f .ensures .0) (f .ensures .1))),
+          (pre .1 .0 .long) (few (a .k) (omega arith)) (few (at .i) (omega arith)) (at .inv .1) (f .last .1 .0) (f .result) (f .ensures .0) (f .ensures .1))),
     )
 
 same-length : tie.Need-same-length Inv-loop μ-loop

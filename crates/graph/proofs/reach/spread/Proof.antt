@@ -16,8 +16,16 @@ Inv-loop work₀ t d₀ work d = (d ≤ 512) × SpreadTo t work₀ d work
 abbrev μ-loop : tie.MeasureT-loop
 μ-loop work₀ t d₀ work d = 512 - d
 
+returns : tie.Need-returns Inv-loop μ-loop
+returns c = absurd (omega arith)
+
+returns-2 : tie.Need-returns-2 Inv-loop μ-loop
+returns-2 c = absurd (omega arith)
+
 loop-holds : tie.Need-loop-holds Inv-loop μ-loop
-loop-holds c = (omega arith, spread-none (c .before .args .t) (c .before .args .work .now))
+loop-holds c =
+    let a = c .before .before .before .args in
+    (omega arith, spread-none (a .t) (a .work .now))
 
 test-requires : tie.Need-test-requires Inv-loop μ-loop
 test-requires c κs = search needs
@@ -34,26 +42,26 @@ loop-less c = omega arith
 loop-again : tie.Need-loop-again Inv-loop μ-loop
 loop-again c =
     let at = c .before .before .before .before .loop in
-    let a = c .before .before .before .before .before .before .args in
+    let a = c .before .before .before .before .before .before .before .before .args in
     let w₀ : List ℕ = a .work .now in
     let t : ℕ = a .t in (
       omega arith,
-      subst (λ (n : ℕ). SpreadTo t w₀ n (c .if1 .work)) (sym (add-one (at .d)))
+      subst (λ (n : ℕ). SpreadTo t w₀ n (c .if3 .work)) (sym (add-one (at .d)))
           (⊎-elim
           (λ w. subst (λ (l : List ℕ). SpreadTo t w₀ (suc (at .d)) l) (sym (w .5 ∙ w .2 .ensures))
           (spread-more t w₀ (at .work) (at .d) (omega arith) (omega arith) (omega arith) (at .inv .1) (sym (c .before .test .ensures) ∙ w .0 .taken)))
           (λ w. subst (λ (l : List ℕ). SpreadTo t w₀ (suc (at .d)) l) (sym (w .1))
           (spread-skip t w₀ (at .work) (at .d) (omega arith) (omega arith) (omega arith) (at .inv .1) (sym (c .before .test .ensures) ∙ w .0 .left)))
-          (c .if1 .came)),
+          (c .if3 .came)),
     )
 
 same-length : tie.Need-same-length Inv-loop μ-loop
 same-length c = c .before .loop .inv .1 .kept .size
 
-returns : tie.Need-returns Inv-loop μ-loop
-returns c =
+returns-3 : tie.Need-returns-3 Inv-loop μ-loop
+returns-3 c =
     let at = c .before .loop in
-    let a = c .before .before .before .args in
+    let a = c .before .before .before .before .before .args in
     let w₀ : List ℕ = a .work .now in
     let e : at .d ≡ 512 = omega arith in
     spread-all (a .t) w₀ (at .work) (subst (λ (n : ℕ). SpreadTo (a .t) w₀ n (at .work)) e (at .inv .1))
@@ -64,6 +72,8 @@ spread-spec =
     (tie.spec
     Inv-loop
     μ-loop
+    returns
+    returns-2
     loop-holds
     test-requires
     join-requires
@@ -71,4 +81,4 @@ spread-spec =
     loop-less
     loop-again
     same-length
-    returns)
+    returns-3)
