@@ -10,7 +10,7 @@ enum { FREE = 255, NOWHERE = 255 };
 struct event { uint8_t thread, kind, target; uint16_t value; };
 
 struct machine {
-    uint16_t variables[256];
+    uint32_t variables[256]; /* 0: not known; else the value and 1 */
     uint8_t holders[LOCKS];
     uint8_t waits[THREADS];
     uint8_t forked[THREADS];
@@ -102,7 +102,7 @@ static unsigned fault(const struct machine *m, const struct event *e) {
     if (!m->forked[e->thread] || m->joined[e->thread]) return QUELOHUITE_THREAD;
     if (breaks_a_wait(m, e)) return QUELOHUITE_WAIT;
     switch (e->kind) {
-    case READ: return m->variables[e->target] == e->value ? 0 : QUELOHUITE_VALUE;
+    case READ: return m->variables[e->target] == 0 || m->variables[e->target] == e->value + 1u ? 0 : QUELOHUITE_VALUE;
     case ACQUIRE:
     case POSTWAIT: return m->holders[e->target] == FREE ? 0 : QUELOHUITE_LOCK;
     case RELEASE:
@@ -117,7 +117,8 @@ static unsigned fault(const struct machine *m, const struct event *e) {
 
 static void step(struct machine *m, const struct event *e) {
     switch (e->kind) {
-    case WRITE: m->variables[e->target] = e->value; break;
+    case READ:
+    case WRITE: m->variables[e->target] = e->value + 1u; break;
     case ACQUIRE: m->holders[e->target] = e->thread; break;
     case RELEASE: m->holders[e->target] = FREE; break;
     case PREWAIT: m->holders[e->target] = FREE; m->waits[e->thread] = e->target; break;

@@ -12,7 +12,8 @@
                    a thread 0 to 15 (kinds 8, 9), or 0 (kind 10)
        byte 5      spare, 0
        byte 6, 7   value, low byte first, for kinds 1 and 2; otherwise 0
-   Thread 0 exists at the start, every variable is 0 and every lock is free. */
+   Thread 0 exists at the start and every lock is free. A variable's value is unknown until its first
+   read or write, so a recording may start in the middle of a run. */
 
 #ifndef QUELOHUITE_H
 #define QUELOHUITE_H
@@ -47,7 +48,7 @@ extern "C" {
                                         notify by a thread that doesn't hold it */
 #define QUELOHUITE_FORK_JOIN      11 /* fork of a thread already forked; join of oneself or of one
                                         never forked */
-#define QUELOHUITE_VALUE          12 /* a read's value isn't the variable's */
+#define QUELOHUITE_VALUE          12 /* a read's value isn't the variable's, which is known */
 #define QUELOHUITE_TRANSACTIONS   13 /* the record would begin a 513th transaction */
 
 /* Sizes that are enough for every recording. */

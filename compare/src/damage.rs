@@ -106,7 +106,7 @@ fn any_operation(machine: &Machine, numbers: &mut Numbers) -> Operation {
     let lock = numbers.one_of(&[0, 0, 1, 1, 2, 3, 31]);
     let thread = numbers.below(16) as u8;
     let variable = numbers.one_of(&[0, 0, 1, 2, 255]);
-    let right = machine.variables[usize::from(variable)];
+    let right = machine.variables[usize::from(variable)].unwrap_or(0);
     let value = if numbers.percent(50) { right } else { numbers.below(4) as u16 };
     match numbers.below(10) {
         0 => Operation::Read { variable, value },

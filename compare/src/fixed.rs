@@ -72,14 +72,38 @@ fn two_faults_at_once() -> Vec<Vec<u8>> {
         "0 acquire m0; 0 prewait m0; 0 fork 0",
         "0 acquire m0; 0 prewait m0; 0 acquire m0",
         "0 acquire m0; 0 prewait m0; 0 release m0",
-        "0 acquire m0; 0 prewait m0; 0 read v0 1",
+        "0 write v0 0; 0 acquire m0; 0 prewait m0; 0 read v0 1",
         "0 fork 1; 0 acquire m0; 0 prewait m0; 1 acquire m0; 0 postwait m0",
         "0 fork 1; 0 acquire m0; 0 prewait m0; 1 join 0; 0 postwait m0",
         "0 fork 1; 0 acquire m0; 1 postwait m0",
-        "0 fork 1; 0 join 1; 1 read v0 1",
+        "0 write v0 0; 0 fork 1; 0 join 1; 1 read v0 1",
         "0 fork 1; 0 join 1; 1 fork 1",
         "1 fork 1",
         "1 join 1",
+    ]
+    .iter()
+    .map(|text| encode_all(&events(text)))
+    .collect()
+}
+
+/// Recordings that start late: a first read makes a value known, whoever reads, and from then on
+/// every read is held to it.
+fn started_late() -> Vec<Vec<u8>> {
+    [
+        "0 read v0 7",
+        "0 read v0 0; 0 read v0 1",
+        "0 read v0 7; 0 read v0 7",
+        "0 read v0 7; 0 read v0 0",
+        "0 read v255 65535; 0 read v255 65534",
+        "0 fork 1; 1 read v0 7; 0 read v0 7",
+        "0 fork 1; 1 read v0 7; 0 read v0 8",
+        "0 fork 1; 1 read v0 7; 0 read v0 0",
+        "0 fork 1; 0 read v0 7; 1 write v0 7; 0 read v0 7",
+        "0 fork 1; 0 read v0 7; 1 write v0 8; 0 read v0 7",
+        "0 fork 1; 1 write v0 3; 0 read v0 0",
+        "0 fork 1; 1 write v0 0; 0 read v0 0; 1 read v1 9; 0 write v1 9",
+        "0 fork 1; 0 fork 2; 1 read v0 7; 2 read v0 7; 0 yield; 0 write v0 1; 1 read v0 1",
+        "0 fork 1; 0 read v0 7; 1 read v0 7; 0 read v0 7",
     ]
     .iter()
     .map(|text| encode_all(&events(text)))
@@ -130,6 +154,7 @@ pub fn recordings() -> Vec<Vec<u8>> {
     let mut inputs = examples();
     inputs.extend(at_the_limit_of_transactions());
     inputs.extend(two_faults_at_once());
+    inputs.extend(started_late());
     inputs.extend(allowed_by_the_machine());
     let mut numbers = Numbers::from_seed(0);
     for which in 0..SHAPES {

@@ -93,9 +93,9 @@ impl History {
         true
     }
 
-    /// Reads whatever the variable holds.
+    /// Reads whatever the variable holds; 0 where that isn't known.
     pub fn read(&mut self, thread: u8, variable: u8) -> bool {
-        let value = self.machine.variables[usize::from(variable)];
+        let value = self.machine.variables[usize::from(variable)].unwrap_or(0);
         self.add(thread, Operation::Read { variable, value })
     }
 
@@ -146,7 +146,8 @@ impl History {
         let other = numbers.below(habits.threads) as u8;
         match pick(&habits.weights, numbers) {
             0 => {
-                let value = self.machine.variables[usize::from(variable)];
+                // A first read gives any value.
+                let value = self.machine.variables[usize::from(variable)].unwrap_or(value);
                 Operation::Read { variable, value }
             }
             1 => Operation::Write { variable, value },

@@ -5,7 +5,8 @@ use crate::record::{Event, Operation};
 /// Everything that the machine remembers.
 #[derive(Clone, Debug, PartialEq, Eq, Hash)]
 pub struct Machine {
-    pub variables: [u16; 256],
+    /// The value of each variable, once a read or a write has made it known.
+    pub variables: [Option<u16>; 256],
     /// The thread that holds each lock.
     pub holders: [Option<u8>; 32],
     pub forked: [bool; 16],
@@ -15,12 +16,13 @@ pub struct Machine {
 }
 
 impl Machine {
-    /// Every variable is 0, every lock is free, thread 0 exists, nobody waits or has been joined.
+    /// No variable's value is known, every lock is free, thread 0 exists, nobody waits or has been
+    /// joined.
     pub fn fresh() -> Machine {
         let mut forked = [false; 16];
         forked[0] = true;
         Machine {
-            variables: [0; 256],
+            variables: [None; 256],
             holders: [None; 32],
             forked,
             joined: [false; 16],
@@ -85,7 +87,9 @@ impl Machine {
 
     fn reads_another_value(&self, event: &Event) -> bool {
         match event.operation {
-            Operation::Read { variable, value } => self.variables[usize::from(variable)] != value,
+            Operation::Read { variable, value } => {
+                self.variables[usize::from(variable)].is_some_and(|known| known != value)
+            }
             _ => false,
         }
     }
@@ -94,8 +98,10 @@ impl Machine {
     pub fn step(&mut self, event: &Event) {
         let acting = usize::from(event.thread);
         match event.operation {
-            Operation::Read { .. } | Operation::Notify { .. } | Operation::Yield => {}
-            Operation::Write { variable, value } => self.variables[usize::from(variable)] = value,
+            Operation::Notify { .. } | Operation::Yield => {}
+            Operation::Read { variable, value } | Operation::Write { variable, value } => {
+                self.variables[usize::from(variable)] = Some(value);
+            }
             Operation::Acquire { lock } => self.holders[usize::from(lock)] = Some(event.thread),
             Operation::Release { lock } => self.holders[usize::from(lock)] = None,
             Operation::Prewait { lock } => {

@@ -86,7 +86,7 @@ fn p6_to_p9() {
 
 #[test]
 fn p10_and_p11() {
-    refused(&bytes("0 read v0 7"), 12, 0);
+    cooperable("0 read v0 7", 1, &[0]);
     refused(&bytes("0 acquire m0; 0 acquire m0"), 10, 1);
 }
 
@@ -169,7 +169,8 @@ fn numbers_8_to_12() {
 fn number_13() {
     let before = "0 yield;".repeat(512);
     refused(&bytes(&format!("{before} 0 write v0 1")), 13, 512);
-    refused(&bytes(&format!("{before} 0 read v0 1")), 12, 512);
+    let known = "0 write v0 0; 0 yield;".to_string() + &"0 yield;".repeat(511);
+    refused(&bytes(&format!("{known} 0 read v0 1")), 12, 513);
     let joins = format!("0 fork 1; {}", "0 join 1;".repeat(512));
     refused(&bytes(&joins), 13, 512);
 }

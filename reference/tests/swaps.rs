@@ -21,7 +21,12 @@ fn operation(numbers: &mut Numbers, machine: &Machine) -> Operation {
     let lock = numbers.below(2) as u8;
     let thread = numbers.below(3) as u8;
     match numbers.below(12) {
-        0 | 1 => Operation::Read { variable, value: machine.variables[usize::from(variable)] },
+        0 | 1 => {
+            // A first read gives any value.
+            let any = numbers.below(3) as u16;
+            let value = machine.variables[usize::from(variable)].unwrap_or(any);
+            Operation::Read { variable, value }
+        }
         2 | 3 => Operation::Write { variable, value: numbers.below(2) as u16 },
         4 => Operation::Acquire { lock },
         5 => Operation::Release { lock },

@@ -3,24 +3,24 @@ use Prim.Native.Nat.{ℕ}
 use native.Mathlib.Omega.{arith}
 use mathlib.Core.Path.{_≡_, refl, sym, ap, _∙_, subst}
 use mathlib.Core.Logic.{_≢_}
-use mathlib.Core.Bool.{Bool, true, false, not, _&&_}
+use mathlib.Core.Bool.{Bool, true, false, not, _&&_, _||_}
 use mathlib.Core.List.{List, [], _∷_}
-use lib.Dec.{T, eqb}
+use lib.Dec.{T, eqb, eqb→eq, eqb-refl}
 use Rattle.record.specs.declared.Event.{Event}
 use Rattle.record.specs.declared.Op.{Op}
 use Rattle.record.specs.declared.Op.the-variants.{Read, Write, Acquire, Release, Prewait, Postwait, Notify, Fork, Join, Yield}
 use Rattle.record.specs.Record.{target}
 use Rattle.replay.specs.declared.State.{State}
-use Rattle.replay.specs.Machine.{unforked, forked, joined, faultOf, next, after, possible}
+use Rattle.replay.specs.Machine.{unknown, known, unforked, forked, joined, faultOf, next, after, possible}
 use Rattle.graph.specs.Conflict as Conflict
 use Rattle.graph.specs.Conflict.{conflict}
 use Rattle.graph.specs.Swaps.{Swaps}
-use Rattle.trace.proofs.Tests.{by, by-same, T-of, and-left, and-right, and-both, or-left, or-right}
+use Rattle.trace.proofs.Tests.{by, by-same, T-of, and-left, and-right, and-both, or-cases, or-left, or-right}
 use Rattle.trace.proofs.Lists.{Every, every-pair}
 use Rattle.trace.proofs.Runs.{Runs, Exchange, swaps-run, parts-exchange}
 use Rattle.trace.proofs.Runs.Runs.{stops, goes}
 use Rattle.trace.proofs.Cells.{Cell, Touch, cell, changes, can, does, readers-exchange, apart-exchange, twins-exchange}
-use Rattle.replay.proofs.Cells.{machine, variable, lock, life, wait, waiting, forks, joins, main, touches, event-runs, runs-event}
+use Rattle.replay.proofs.Cells.{machine, variable, lock, life, wait, waiting, forks, joins, main, readings, touches, event-runs, runs-event}
 use Rattle.graph.proofs.Apart.{Apart, apart}
 
 abbrev Swappable : Touch → Touch → Type 0
@@ -34,17 +34,22 @@ data OnLife (t : ℕ) (o : Op) (p : Touch) : Type 0 where
   joining : T (Conflict.joins o) → p ≡ joins t (target o) → OnLife t o p
   own : cell p ≡ life t → changes p ≡ false → OnLife t o p
 
+-- a variable: it is read, or it is written
+data OnVariable (o : Op) (p : Touch) : Type 0 where
+  reading : (v : ℕ) → p ≡ readings (target o) v → OnVariable o p
+  writing : T (Conflict.writes o) → cell p ≡ variable (target o) → OnVariable o p
+
 -- a variable, a lock, a life, or the acting thread's own wait
 data About (t : ℕ) (o : Op) (p : Touch) : Type 0 where
-  on-variable : T (Conflict.accesses o) → (T (changes p) → T (Conflict.writes o)) → cell p ≡ variable (target o) → About t o p
+  on-variable : T (Conflict.accesses o) → OnVariable o p → About t o p
   on-lock : T (Conflict.locks o) → cell p ≡ lock (target o) → About t o p
   on-life : OnLife t o p → About t o p
   on-wait : cell p ≡ wait t → About t o p
 
 main-about : (t : ℕ) (o : Op) → About t o (main t o)
 unfolding Conflict.opened
-main-about t (Read x v) = About.on-variable tt absurd refl
-main-about t (Write x v) = About.on-variable tt (λ c. tt) refl
+main-about t (Read x v) = About.on-variable tt (OnVariable.reading v refl)
+main-about t (Write x v) = About.on-variable tt (OnVariable.writing tt refl)
 main-about t (Acquire m) = About.on-lock tt refl
 main-about t (Release m) = About.on-lock tt refl
 main-about t (Prewait m) = About.on-lock tt refl
@@ -82,7 +87,20 @@ life-cell {o} (OnLife.forking f e) = (target o, ap cell e)
 life-cell {o} (OnLife.joining j e) = (target o, ap cell e)
 life-cell {t} (OnLife.own e n) = (t, e)
 
--- ---- two forks, or two joins, of one thread are twins
+variable-cell : {o : Op} {p : Touch} → OnVariable o p → cell p ≡ variable (target o)
+variable-cell (OnVariable.reading v e) = ap cell e
+variable-cell (OnVariable.writing w e) = e
+
+-- ---- two reads of one variable, two forks or two joins of one thread are twins
+
+-- the one after the other finds the value known, and so the same
+read-read : (x v w : ℕ) → Swappable (readings x v) (readings x w)
+read-read x v w = twins-exchange machine (variable x) (λ n. eqb n unknown || eqb n (known v)) (λ n. known v) (λ n. eqb n unknown || eqb n (known w)) (λ n. known w) (λ n h k.
+    let same : known v ≡ known w = or-cases (eqb (known v) unknown) (eqb (known v) (known w)) k (λ t. absurd (omega (arith, eqb→eq (known v) unknown t))) (λ t. eqb→eq (known v) (known w) t) in (
+      subst (λ m. T (eqb n unknown || eqb n m)) same h,
+      or-right (eqb (known w) unknown) (eqb (known w) (known v)) (subst (λ m. T (eqb (known w) m)) (sym same) (eqb-refl (known w))),
+      sym same,
+    ))
 
 fork-fork : (x : ℕ) → Swappable (forks x) (forks x)
 fork-fork x = twins-exchange machine (life x) (λ l. eqb l unforked) (λ l. forked) (λ l. eqb l unforked) (λ l. forked) (λ v h k. absurd k)
@@ -121,24 +139,27 @@ module _ (a b : Event) (f : Apart a b) (p q : Touch) where
   lives-exchange (OnLife.own e n) (OnLife.joining j d) = different (places e (ap cell d) (λ z. f .governing (or-right (Conflict.forks B) (Conflict.joins B) j) (sym z)))
   lives-exchange (OnLife.own e n) (OnLife.own d m) = readers-exchange machine p q n m
 
+  variables-exchange : T (Conflict.accesses A) → T (Conflict.accesses B) → OnVariable A p → OnVariable B q → Swappable p q
+  variables-exchange i j (OnVariable.reading v e) (OnVariable.reading w d) = by-same (target A) (target B)
+      (λ z. subst (λ r. Swappable r q) (sym e) (subst (λ r. Swappable (readings (target A) v) r) (sym (d ∙ ap (λ x. readings x w) (sym z))) (read-read (target A) v w)))
+      (λ z. different (places (ap cell e) (ap cell d) z))
+  variables-exchange i j (OnVariable.reading v e) (OnVariable.writing w d) = different (places (ap cell e) d (f .variables i j (or-right (Conflict.writes A) (Conflict.writes B) w)))
+  variables-exchange i j (OnVariable.writing w e) v = different (places e (variable-cell v) (f .variables i j (or-left (Conflict.writes A) (Conflict.writes B) w)))
+
   steps-exchange : About (a .thread) (a .op) p → About (b .thread) (b .op) q → Swappable p q
-  steps-exchange (About.on-variable i w e) (About.on-variable j v d) = by (changes p)
-      (λ c. different (places e d (f .variables i j (or-left (Conflict.writes A) (Conflict.writes B) (w (T-of c))))))
-      (λ c. by (changes q)
-      (λ k. different (places e d (f .variables i j (or-right (Conflict.writes A) (Conflict.writes B) (v (T-of k))))))
-      (λ k. readers-exchange machine p q c k))
-  steps-exchange (About.on-variable i w e) (About.on-lock j d) = different (tables e d (λ z. omega arith))
-  steps-exchange (About.on-variable i w e) (About.on-life l) = different (tables e (life-cell l .1) (λ z. omega arith))
-  steps-exchange (About.on-variable i w e) (About.on-wait d) = different (tables e d (λ z. omega arith))
-  steps-exchange (About.on-lock i e) (About.on-variable j v d) = different (tables e d (λ z. omega arith))
+  steps-exchange (About.on-variable i v) (About.on-variable j w) = variables-exchange i j v w
+  steps-exchange (About.on-variable i v) (About.on-lock j d) = different (tables (variable-cell v) d (λ z. omega arith))
+  steps-exchange (About.on-variable i v) (About.on-life l) = different (tables (variable-cell v) (life-cell l .1) (λ z. omega arith))
+  steps-exchange (About.on-variable i v) (About.on-wait d) = different (tables (variable-cell v) d (λ z. omega arith))
+  steps-exchange (About.on-lock i e) (About.on-variable j v) = different (tables e (variable-cell v) (λ z. omega arith))
   steps-exchange (About.on-lock i e) (About.on-lock j d) = different (places e d (f .locking i j))
   steps-exchange (About.on-lock i e) (About.on-life l) = different (tables e (life-cell l .1) (λ z. omega arith))
   steps-exchange (About.on-lock i e) (About.on-wait d) = different (tables e d (λ z. omega arith))
-  steps-exchange (About.on-life l) (About.on-variable j v d) = different (tables (life-cell l .1) d (λ z. omega arith))
+  steps-exchange (About.on-life l) (About.on-variable j v) = different (tables (life-cell l .1) (variable-cell v) (λ z. omega arith))
   steps-exchange (About.on-life l) (About.on-lock j d) = different (tables (life-cell l .1) d (λ z. omega arith))
   steps-exchange (About.on-life l) (About.on-life k) = lives-exchange l k
   steps-exchange (About.on-life l) (About.on-wait d) = different (tables (life-cell l .1) d (λ z. omega arith))
-  steps-exchange (About.on-wait e) (About.on-variable j v d) = different (tables e d (λ z. omega arith))
+  steps-exchange (About.on-wait e) (About.on-variable j v) = different (tables e (variable-cell v) (λ z. omega arith))
   steps-exchange (About.on-wait e) (About.on-lock j d) = different (tables e d (λ z. omega arith))
   steps-exchange (About.on-wait e) (About.on-life l) = different (tables e (life-cell l .1) (λ z. omega arith))
   steps-exchange (About.on-wait e) (About.on-wait d) = different (places e d (f .threads))

@@ -18,7 +18,7 @@ pub enum Seen {
 // Looks at one record and takes it in.
 pub fn see<'a>(
     bytes: &[u8],
-    values: &'a mut [u16; 256],
+    values: &'a mut [u32; 256],
     holders: &'a mut [u8; 32],
     lives: &'a mut [u8; 16],
     waits: &'a mut [u8; 16],

@@ -1,21 +1,22 @@
 -- What each arm of the code finds and leaves is what the definitions say: laws over plain states.
 use Prim.Native.Nat.{ℕ, zero, suc, _≤_, _<_}
-use mathlib.Core.Path.{_≡_, refl, sym, ap, _∙_}
+use mathlib.Core.Path.{_≡_, refl, sym, ap, _∙_, subst}
 use mathlib.Core.Logic.{_≢_}
-use mathlib.Core.Bool.{cond, _||_}
+use mathlib.Core.Bool.{Bool, true, false, not, cond, _&&_, _||_}
 use mathlib.Core.List.{List, [], _∷_}
 use native.Mathlib.Omega.{arith}
 use native.Mathlib.Nat.{lt-of-not-le}
 use lib.ListN.{length, getD, List·getD-eq-default}
-use lib.Dec.{eqb}
+use lib.Dec.{T, eqb, eqb→eq, eqb-refl}
 use borrow.Author.Tests.{eq-eqb, ne-eqb}
+use Rattle.trace.proofs.Tests.{by, T-of, T-is, and-left, and-right, and-both}
 use Rattle.record.specs.declared.Event.{Event}
 use Rattle.record.specs.declared.Op.{Op}
 use Rattle.record.specs.Faults.{check, firstFault}
 use Rattle.record.proofs.Laws.{shape}
 use Rattle.record.specs.Record.{kind, target, value, operation}
 use Rattle.replay.specs.declared.State.{State}
-use Rattle.replay.specs.Machine.{free, heldBy, unforked, forked, joined, waitless, waitsOn, valueOf, holderOf, lifeOf, waitOf, withValue, withHolder, withLife, withWait, waitBefore, finds, checks, faultOf, act, stepped}
+use Rattle.replay.specs.Machine.{unknown, known, free, heldBy, unforked, forked, joined, waitless, waitsOn, valueOf, holderOf, lifeOf, waitOf, withValue, withHolder, withLife, withWait, waitBefore, finds, checks, faultOf, act, stepped}
 
 -- an entry that isn't 0 is within its list
 within : (l : List ℕ) (i : ℕ) → getD l i 0 ≢ 0 → i < length l
@@ -52,17 +53,28 @@ module _ (s : State) (t : ℕ) where
   Done o r s′ = (r ≡ firstFault (finds s t o)) × (s′ ≡ cond (eqb r 0) (act s t o) s)
 
   module _ (k : ℕ) where
-    pub read-right : (x v : ℕ) → k ≡ 1 → valueOf s x ≡ v → Done (operation k x v) 0 s
-    unfolding operation finds act firstFault
-    read-right x v e h = rw (e, eq-eqb v (valueOf s x) (sym h)) (refl, refl)
+    -- whether the variable's value is unknown, or n says it
+    abbrev pub holds : ℕ → ℕ → Bool
+    holds x n = eqb (valueOf s x) unknown || eqb (valueOf s x) n
 
-    pub read-wrong : (x v : ℕ) → k ≡ 1 → valueOf s x ≢ v → Done (operation k x v) 12 s
+    pub access-wrong : (x v n : ℕ) → n ≡ known v → (eqb k 1 && not (holds x n)) ≡ true → Done (operation k x v) 12 s
     unfolding operation finds act firstFault
-    read-wrong x v e h = rw (e, ne-eqb v (valueOf s x) (λ q. h (sym q))) (refl, refl)
+    access-wrong x v n is h =
+        let read : k ≡ 1 = eqb→eq k 1 (and-left (eqb k 1) (not (holds x n)) (T-of h)) in
+        let other : holds x (known v) ≡ false = subst (λ m. holds x m ≡ false) is
+        (by (holds x n) (λ t. absurd (subst (λ b. T (not b)) t (and-right (eqb k 1) (not (holds x n)) (T-of h)))) (λ t. t)) in
+        rw (read, other) (refl, refl)
 
-    pub write-right : (x v : ℕ) → k ≡ 2 → Done (operation k x v) 0 (withValue s x v)
+    pub access-right : (x v n : ℕ) → n ≡ known v → 1 ≤ k → k ≤ 2 → (eqb k 1 && not (holds x n)) ≡ false → Done (operation k x v) 0 (withValue s x n)
     unfolding operation finds act firstFault
-    write-right x v e = rw e (refl, refl)
+    access-right x v n is l h e = subst (λ m. Done (operation k x v) 0 (withValue s x m)) (sym is) (by (eqb k 1)
+        (λ r. by (holds x n)
+        (λ t. rw (eqb→eq k 1 (T-of r), subst (λ m. holds x m ≡ true) is t) (refl, refl))
+        (λ t. absurd (subst T e (and-both (eqb k 1) (not (holds x n)) (T-of r) (T-of (ap not t))))))
+        (λ r. rw (second r) (refl, refl)))
+      where
+        second : eqb k 1 ≡ false → k ≡ 2
+        second r = let n : k ≢ 1 = λ q. subst T r (subst (λ j. T (eqb k j)) q (eqb-refl k)) in omega arith
 
     lock-finds : (m : ℕ) → 3 ≤ k → k ≤ 7 → finds s t (operation k m 0) ≡ check 10 0 (eqb (holderOf s m) (holderBefore k t)) ∷ []
     unfolding operation finds

@@ -1,6 +1,6 @@
 -- The replay machine (document 01, "The replay machine", and numbers 8 to 12): its states, what an event must find, and what it changes.
 use Prim.Native.Nat.{ℕ, zero, suc}
-use mathlib.Core.Bool.{Bool, true, false, cond, not, _&&_}
+use mathlib.Core.Bool.{Bool, true, false, cond, not, _&&_, _||_}
 use mathlib.Core.List.{List, [], _∷_}
 use lib.ListN.{getD, set, replicate}
 use lib.Dec.{eqb}
@@ -11,7 +11,14 @@ use Rattle.record.specs.Faults.{Check, check, firstFault}
 use Rattle.record.specs.Record.{kind, target}
 use Rattle.replay.specs.declared.State.{State}
 
--- What the state's numbers say. A holder: free, or held by a thread. A life: not forked, forked, or joined. A wait: none, or on a lock
+-- What the state's numbers say. A value: unknown, or known. A holder: free, or held by a thread. A life: not forked, forked, or joined. A wait: none,
+-- or on a lock
+abbrev pub unknown : ℕ
+unknown = 0
+
+abbrev pub known : ℕ → ℕ
+known v = suc v
+
 abbrev pub free : ℕ
 free = 0
 
@@ -33,10 +40,10 @@ waitless = 0
 abbrev pub waitsOn : ℕ → ℕ
 waitsOn m = suc m
 
--- Fresh state: every variable is 0, every lock is free, thread 0 exists, nobody waits or has been joined
+-- Fresh state: every variable's value is unknown, every lock is free, thread 0 exists, nobody waits or has been joined
 unfoldable pub fresh : State
 fresh = record {
-  values = replicate 256 0;
+  values = replicate 256 unknown;
   holders = replicate 32 free;
   lives = forked ∷ replicate 15 unforked;
   waits = replicate 16 waitless;
@@ -48,7 +55,7 @@ stateOf values holders lives waits = record { values = values; holders = holders
 
 module _ (s : State) where
   abbrev pub valueOf : ℕ → ℕ
-  valueOf x = getD (s .values) x 0
+  valueOf x = getD (s .values) x unknown
 
   abbrev pub holderOf : ℕ → ℕ
   holderOf m = getD (s .holders) m free
@@ -77,7 +84,7 @@ waitBefore o = cond (eqb (kind o) 6) (waitsOn (target o)) waitless
 
 -- what the operation itself must find, at the acting thread t
 unfoldable pub finds : State → ℕ → Op → List Check
-finds s t (Read x v) = check 12 0 (eqb v (valueOf s x)) ∷ []
+finds s t (Read x v) = check 12 0 (eqb (valueOf s x) unknown || eqb (valueOf s x) (known v)) ∷ []
 finds s t (Write x v) = []
 finds s t (Acquire m) = check 10 0 (eqb (holderOf s m) free) ∷ []
 finds s t (Release m) = check 10 0 (eqb (holderOf s m) (heldBy t)) ∷ []
@@ -101,8 +108,8 @@ faultOf s e = firstFault (checks s e)
 
 -- what a possible event changes
 unfoldable pub act : State → ℕ → Op → State
-act s t (Read x v) = s
-act s t (Write x v) = withValue s x v
+act s t (Read x v) = withValue s x (known v)
+act s t (Write x v) = withValue s x (known v)
 act s t (Acquire m) = withHolder s m (heldBy t)
 act s t (Release m) = withHolder s m free
 act s t (Prewait m) = withWait (withHolder s m free) t (waitsOn m)

@@ -1,40 +1,57 @@
 -- `replay::steps::access` meets its contract. Assumes nothing.
-use mathlib.Core.Path.{_≡_}
+use Prim.Native.Nat.{ℕ, _+_}
+use mathlib.Core.Path.{_≡_, sym, _∙_, subst}
+use native.Mathlib.Numerals.{add-one}
 use native.Mathlib.Omega.{arith}
-use Rattle.replay.proofs.Laws.{read-right, read-wrong, write-right}
 use borrow.Author.Needs.{needs}
+use Rattle.replay.proofs.Laws.{access-wrong, access-right}
 use Rattle.replay.proofs.steps.access.Statement.{statement}
 use Rattle.replay.proofs.steps.access.Tie as tie
+use Rattle.replay.proofs.steps.access.Reads as reads
+use Rattle.replay.proofs.steps.access.Lts as lts
+use Rattle.replay.proofs.steps.differs.Reads as differs-reads
 
-mul-if2 : tie.Need-mul-if2
-mul-if2 c = search needs
+-- src/steps.rt:45:21
+add-now-known : tie.Need-add-now-known
+add-now-known c = search needs
 
-element-copy-out-if2 : tie.Need-element-copy-out-if2
-element-copy-out-if2 c = search needs
+-- src/steps.rt:46:22
+mul-differs : tie.Need-mul-differs
+mul-differs c = search needs
 
+-- src/steps.rt:46:22
+element-copy-out-differs : tie.Need-element-copy-out-differs
+element-copy-out-differs c = search needs
+
+-- src/steps.rt:46:8
+differs-requires : tie.Need-differs-requires
+differs-requires c κs = search needs
+
+-- src/steps.rt:47:9
 returns : tie.Need-returns
-returns c = λ holders lives waits t. read-right _ t _ _ _ (c .before .before .if1 .taken) (c .if2 .taken)
+returns c = λ holders lives waits t. access-wrong _ t _ _ _ _ (add-one _) (sym (c .before .differs .ensures) ∙ c .if1 .taken)
 
-returns-2 : tie.Need-returns-2
-returns-2 c = λ holders lives waits t. read-wrong _ t _ _ _ (c .before .before .if1 .taken) (c .if2 .left)
-
+-- src/steps.rt:49:5
 mul-values : tie.Need-mul-values
 mul-values c = search needs
 
+-- src/steps.rt:49:5
 element-write-values : tie.Need-element-write-values
 element-write-values c = search needs
 
-returns-3 : tie.Need-returns-3
-returns-3 c = let second : c .before .args .kind ≡ 2 = omega arith in λ holders lives waits t. write-right _ t _ _ _ second
+-- src/steps.rt:37:1
+returns-2 : tie.Need-returns-2
+returns-2 c = λ holders lives waits t. access-right _ t _ _ _ _ (add-one _) (omega arith) (omega arith) (sym (c .before .differs .ensures) ∙ c .if1 .left)
 
 pub access-spec : {M : Type 1} → statement M
 access-spec =
     tie.close
     (tie.spec
-    mul-if2
-    element-copy-out-if2
+    add-now-known
+    mul-differs
+    element-copy-out-differs
+    differs-requires
     returns
-    returns-2
     mul-values
     element-write-values
-    returns-3)
+    returns-2)
