@@ -1,1 +1,5 @@
 pub mod Examples
+pub mod Reasons
+pub mod Pairs
+pub mod Causes
+pub mod Right

@@ -56,34 +56,33 @@ grounds a b =
 unfoldable pub reasonOf : Event → Event → Reason
 reasonOf a b = firstOf (λ g. g .holds) (ground (ForkJoin (target (a .op))) false) (grounds a b) .reason
 
+-- record i of the judged prefix, and the records after it
+abbrev pub at : List Labelled → ℕ → Labelled
+at xs i = getD xs i (labelledAs 0 pastEnd)
+
+abbrev pub after : List Labelled → ℕ → List ℕ
+after xs i = from (suc i) (length xs - suc i)
+
 -- The records of the judged prefix, and an edge from transaction a to b
 module _ (xs : List Labelled) (a b : ℕ) where
-  -- record i of the prefix
-  abbrev pub at : ℕ → Labelled
-  at i = getD xs i (labelledAs 0 pastEnd)
-
-  -- the records after i
-  abbrev pub later : ℕ → List ℕ
-  later i = from (suc i) (length xs - suc i)
-
   -- whether record i, which stands before record j, makes the edge with it
   unfoldable pub makesIt : ℕ → ℕ → Bool
-  makesIt i j = eqb (at i .transaction) a && (eqb (at j .transaction) b && conflict (at i .event) (at j .event))
+  makesIt i j = eqb (at xs i .transaction) a && (eqb (at xs j .transaction) b && conflict (at xs i .event) (at xs j .event))
 
   -- the earliest first record: the first with which a later one makes the edge
   unfoldable pub earliestFirst : ℕ
-  earliestFirst = firstOf (λ i. someOf (makesIt i) (later i)) 0 (below (length xs))
+  earliestFirst = firstOf (λ i. someOf (makesIt i) (after xs i)) 0 (below (length xs))
 
   -- for a first record, the earliest second
   unfoldable pub earliestSecond : ℕ → ℕ
-  earliestSecond i = firstOf (makesIt i) 0 (later i)
+  earliestSecond i = firstOf (makesIt i) 0 (after xs i)
 
   -- the two, and the reason
   unfoldable pub causeOf : Cause
   causeOf =
       let i : ℕ = earliestFirst in
       let j : ℕ = earliestSecond i in
-      record { first = i; second = j; reason = reasonOf (at i .event) (at j .event) }
+      record { first = i; second = j; reason = reasonOf (at xs i .event) (at xs j .event) }
 
 -- The edge at place p of a cycle goes from its p-th transaction, from 0 on, to the next; the last one's back to T, which is the first
 abbrev pub originOf : List ℕ → ℕ → ℕ
