@@ -5,9 +5,10 @@ use mathlib.Core.Path.{_≡_, refl, sym, ap, _∙_, subst}
 use mathlib.Core.Logic.{_⊎_, inl, inr, ⊎-elim}
 use mathlib.Core.Bool.{Bool, true, false, _&&_, _||_}
 use mathlib.Core.List.{List, [], _∷_}
-use lib.Dec.{T, eqb, eqb→eq, eqb-refl}
+use lib.Dec.{T, leb, eqb, eqb→eq, eqb-refl}
+use borrow.Author.Tests.{eq-eqb, ne-eqb}
 use Rattle.record.specs.declared.Event.{Event}
-use Rattle.record.specs.Record.{target}
+use Rattle.record.specs.Record.{kind, target}
 use Rattle.trace.specs.Lists.{firstOf}
 use Rattle.trace.proofs.Tests.{by, T-of, or-cases, and-right}
 use Rattle.graph.specs.Conflict.{accesses, writes, locks, forks, joins, sameThread, sameVariable, sameLock, governs, sameChild, conflict}
@@ -36,6 +37,10 @@ module _ (a b : Event) where
   unfolding chosen firstOf
   is-thread p = as-chosen ∙ rw p
 
+  pub by-thread : a .thread ≡ b .thread → Thread (a .thread) ≡ reasonOf a b
+  unfolding sameThread
+  by-thread e = sym (is-thread (eq-eqb (a .thread) (b .thread) e))
+
   module _ (p : sameThread a b ≡ false) where
     pub is-variable : sameVariable a b ≡ true → reasonOf a b ≡ Variable (target (a .op))
     unfolding chosen firstOf
@@ -58,6 +63,57 @@ module _ (a b : Event) where
         pub is-child : governs a b ≡ false → governs b a ≡ false → reasonOf a b ≡ ForkJoin (target (a .op))
         unfolding chosen firstOf
         is-child s t = as-chosen ∙ by (sameChild a b) (λ u. rw (p, q, r, s, t, u)) (λ u. rw (p, q, r, s, t, u))
+
+  -- ---- by the tests of the code: of kinds k and l and targets x and y, of different threads, what each test found
+
+  module _ (k l x y : ℕ) (k-is : k ≡ kind (a .op)) (l-is : l ≡ kind (b .op)) (x-is : x ≡ target (a .op)) (y-is : y ≡ target (b .op))
+      (different : a .thread ≡ b .thread → ⊥) where
+    abbrev pub Variables : Bool → Type 0
+    Variables v = v ≡ (leb k 2 && leb l 2 && (eqb k 2 || eqb l 2) && eqb x y)
+
+    abbrev pub Locks : Bool → Type 0
+    Locks m = m ≡ ((leb 3 k && leb k 7) && (leb 3 l && leb l 7) && eqb x y)
+
+    abbrev pub Governs : ℕ → ℕ → ℕ → Bool → Type 0
+    Governs j z t g = g ≡ ((eqb j 8 || eqb j 9) && eqb z t)
+
+    threads-differ : sameThread a b ≡ false
+    unfolding sameThread
+    threads-differ = ne-eqb (a .thread) (b .thread) different
+
+    variable-is : {v : Bool} → Variables v → (w : Bool) → v ≡ w → sameVariable a b ≡ w
+    unfolding sameVariable accesses writes
+    variable-is h w q = sym (h ∙ rw (k-is, l-is, x-is, y-is)) ∙ q
+
+    lock-is : {v : Bool} → Locks v → (w : Bool) → v ≡ w → sameLock a b ≡ w
+    unfolding sameLock locks
+    lock-is h w q = sym (h ∙ rw (k-is, l-is, x-is, y-is)) ∙ q
+
+    first-is : {v : Bool} → Governs k x (b .thread) v → (w : Bool) → v ≡ w → governs a b ≡ w
+    unfolding governs forks joins
+    first-is h w q = sym (h ∙ rw (k-is, x-is)) ∙ q
+
+    second-is : {v : Bool} → Governs l y (a .thread) v → (w : Bool) → v ≡ w → governs b a ≡ w
+    unfolding governs forks joins
+    second-is h w q = sym (h ∙ rw (l-is, y-is)) ∙ q
+
+    pub by-variable : {v : Bool} → Variables v → v ≡ true → Variable x ≡ reasonOf a b
+    by-variable h p = ap Variable x-is ∙ sym (is-variable threads-differ (variable-is h true p))
+
+    module _ {v : Bool} (h : Variables v) (p : v ≡ false) where
+      pub by-lock : {m : Bool} → Locks m → m ≡ true → Lock x ≡ reasonOf a b
+      by-lock j q = ap Lock x-is ∙ sym (is-lock threads-differ (variable-is h false p) (lock-is j true q))
+
+      module _ {m : Bool} (j : Locks m) (q : m ≡ false) where
+        pub by-first : {g : Bool} → Governs k x (b .thread) g → g ≡ true → ForkJoin x ≡ reasonOf a b
+        by-first f r = ap ForkJoin x-is ∙ sym (is-first threads-differ (variable-is h false p) (lock-is j false q) (first-is f true r))
+
+        module _ {g : Bool} (f : Governs k x (b .thread) g) (r : g ≡ false) where
+          pub by-second : {d : Bool} → Governs l y (a .thread) d → d ≡ true → ForkJoin y ≡ reasonOf a b
+          by-second e s = ap ForkJoin y-is ∙ sym (is-second threads-differ (variable-is h false p) (lock-is j false q) (first-is f false r) (second-is e true s))
+
+          pub by-child : {d : Bool} → Governs l y (a .thread) d → d ≡ false → ForkJoin x ≡ reasonOf a b
+          by-child e s = ap ForkJoin x-is ∙ sym (is-child threads-differ (variable-is h false p) (lock-is j false q) (first-is f false r) (second-is e false s))
 
   -- ---- that it holds and is the first
 

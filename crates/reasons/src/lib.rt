@@ -1,4 +1,6 @@
 // Why an edge of the reported cycle is there: the two records that make it, and on what they conflict.
+mod reasoning;
+
 use checker::Refusal;
 
 // On what two operations conflict: the thread, variable or lock of both, or the thread that one of them forks or joins.
