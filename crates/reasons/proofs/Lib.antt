@@ -1,5 +1,6 @@
 pub mod Examples
 pub mod Reasons
 pub mod Pairs
+pub mod Hits
 pub mod Causes
 pub mod Right

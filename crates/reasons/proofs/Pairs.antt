@@ -7,7 +7,7 @@ use mathlib.Core.List.{List}
 use lib.Dec.{T}
 use Rattle.trace.specs.Lists.{someOf, firstOf, from, below}
 use Rattle.trace.proofs.Tests.{T-of, T-is}
-use Rattle.trace.proofs.Lists.{Among, from-among, from-bound, from-le, below-has, below-bound, some-none, some-has, Holds, some-at, first-passes, first-among, first-least, first-is}
+use Rattle.trace.proofs.Lists.{Among, from-among, from-bound, from-le, below-has, below-bound, some-none, some-has, Holds, some-at, first-passes, first-among, first-least, first-is, first-default}
 
 module _ (hit : ℕ → ℕ → Bool) (n : ℕ) where
   abbrev later : ℕ → List ℕ
@@ -71,3 +71,14 @@ module _ (hit : ℕ → ℕ → Bool) (n : ℕ) where
     pub second-at : ((m : ℕ) → i < m → m < j → hit i m ≡ false) → second i ≡ j
     second-at none =
         first-is (hit i) 0 (suc i) (n - suc i) j (omega (arith, p .ordered)) (omega (arith, p .ordered, p .within)) (T-is (hit i j) (p .hits)) (λ m h l. none m h l)
+
+  -- where there is no pair, the defaults
+  module _ (none : (i j : ℕ) → i < j → j < n → hit i j ≡ false) where
+    in-range : (i j : ℕ) → Among j (later i) → j < n
+    in-range i j a = let b : j < suc i + (n - suc i) = from-bound (suc i) (n - suc i) j a in let c : suc i ≤ j = from-le (suc i) (n - suc i) j a in omega arith
+
+    pub second-none : (i : ℕ) → second i ≡ 0
+    second-none i = first-default (hit i) 0 (later i) (λ j a. none i j (from-le (suc i) (n - suc i) j a) (in-range i j a))
+
+    pub first-none : first ≡ 0
+    first-none = first-default begins 0 (below n) (λ i a. some-none (hit i) (later i) (λ j c. none i j (from-le (suc i) (n - suc i) j c) (in-range i j c)))

@@ -1,5 +1,6 @@
 // Why an edge of the reported cycle is there: the two records that make it, and on what they conflict.
 mod reasoning;
+mod searching;
 
 use checker::Refusal;
 

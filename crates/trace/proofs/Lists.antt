@@ -287,6 +287,12 @@ module _ {A : Type 0} (p : A → Bool) (d : A) where
       (λ e. subst (λ z. T (p z)) (sym (first-true y l e)) (T-of e))
       (λ e. subst (λ z. T (p z)) (sym (first-false y l e)) (first-passes x l (among-cons m (λ q. absurd (subst T (ap p q ∙ e) t)) (λ n. n)) t))
 
+  -- it is the default, where none does
+  pub first-default : (l : List A) → ((x : A) → Among x l → p x ≡ false) → firstOf p d l ≡ d
+  unfolding firstOf
+  first-default [] h = refl
+  first-default (x ∷ l) h = first-false x l (h x Among.top) ∙ first-default l (λ y m. h y (Among.deeper m))
+
   -- and is one of them
   pub first-among : (x : A) (l : List A) → Among x l → T (p x) → Among (firstOf p d l) l
   first-among x (y ∷ l) m t = by (p y)
