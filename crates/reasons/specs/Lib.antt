@@ -1,2 +1,3 @@
 pub mod Why
 pub mod Meaning
+pub mod Reading

@@ -1,4 +1,5 @@
 // Why an edge of the reported cycle is there: the two records that make it, and on what they conflict.
+mod reading;
 mod reasoning;
 mod searching;
 
