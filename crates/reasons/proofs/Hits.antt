@@ -1,20 +1,26 @@
 -- Laws of the search over the records that arrays hold: what has been passed, and what the first hit is.
-use Prim.Native.Nat.{ℕ, zero, suc, _-_, _<_, _≤_}
+use Prim.Native.Nat.{ℕ, zero, suc, _+_, _-_, _*_, _<_, _≤_}
 use native.Mathlib.Omega.{arith}
-use mathlib.Core.Path.{_≡_, refl, sym, ap, _∙_, subst}
+use native.Mathlib.Numerals.{add-one}
+use mathlib.Core.Path.{_≡_, refl, sym, ap, ap₂, _∙_, subst}
 use mathlib.Core.Bool.{Bool, true, false, _&&_}
 use mathlib.Core.List.{List}
-use lib.ListN.{length, getD}
+use lib.ListN.{length, getD, drop}
+use lib.Seq.{getD-drop}
 use lib.Dec.{eqb}
 use borrow.Author.Tests.{eq-eqb, ne-eqb}
 use Rattle.record.specs.declared.Event.{Event}
+use Rattle.record.specs.Record.{twoBytes}
 use Rattle.trace.proofs.Tests.{T-of}
 use Rattle.graph.specs.Conflict.{conflict}
 use Rattle.graph.specs.Transactions.{Labelled}
 use Rattle.graph.specs.Engine.{pastEnd, labelledAs, held}
 use Rattle.graph.proofs.Held.{length-held, held-at}
-use Rattle.reasons.specs.Why.{at, makesIt, earliestFirst, earliestSecond}
-use Rattle.reasons.proofs.Pairs.{Pair, first-at, second-at, first-none, second-none}
+use Rattle.checker.specs.Demand3.{numbersIn}
+use Rattle.reasons.specs.declared.Reason.{Reason}
+use Rattle.reasons.specs.declared.Cause.{Cause}
+use Rattle.reasons.specs.Why.{at, makesIt, earliestFirst, earliestSecond, reasonOf, causeOf, originOf, goalOf}
+use Rattle.reasons.proofs.Pairs.{Pair, first-under, second-under, first-at, second-at, first-none, second-none}
 
 module _ (all : List Event) (labels : List ℕ) (n a b : ℕ) where
   abbrev pub records : List Labelled
@@ -65,3 +71,64 @@ module _ (all : List Event) (labels : List ℕ) (n a b : ℕ) where
       let none : (c m : ℕ) → c < m → m < length records → makesIt records a b c m ≡ false = λ c m g q. below c (omega arith) m g (omega arith) in
       let e : earliestFirst records a b ≡ 0 = first-none (makesIt records a b) (length records) none in
       (sym e, sym (ap (earliestSecond records a b) e ∙ second-none (makesIt records a b) (length records) none 0))
+
+-- ---- the two records and the reason
+
+module _ (all : List Event) (labels : List ℕ) (n a b : ℕ) (some : 1 ≤ n) where
+  abbrev xs : List Labelled
+  xs = held n all labels
+
+  pub first-small : earliestFirst xs a b < n
+  unfolding earliestFirst
+  first-small =
+      let size : length xs ≡ n = length-held n all labels in
+      let h : earliestFirst xs a b < length xs = first-under (makesIt xs a b) (length xs) (omega arith) in omega arith
+
+  pub second-small : (i : ℕ) → earliestSecond xs a b i < n
+  unfolding earliestSecond
+  second-small i =
+      let size : length xs ≡ n = length-held n all labels in
+      let h : earliestSecond xs a b i < length xs = second-under (makesIt xs a b) (length xs) i (omega arith) in omega arith
+
+  pub cause-right : (i j : ℕ) (r : Reason) → Answered all labels n a b i j → r ≡ reasonOf (getD all i pastEnd) (getD all j pastEnd)
+      → _≡_ {A = Cause} (record { first = i; second = j; reason = r }) (causeOf xs a b)
+  unfolding causeOf
+  cause-right i j r f q =
+      let p : earliestFirst xs a b ≡ i = sym (f .0) in
+      let s : earliestSecond xs a b (earliestFirst xs a b) ≡ j = sym (f .1) in
+      let lt : i < n = subst (λ k. k < n) p first-small in
+      let le : j < n = subst (λ k. k < n) s (second-small (earliestFirst xs a b)) in
+      rw (p, ap (earliestSecond xs a b) (sym p) ∙ s, q, event-at all labels n a b i lt, event-at all labels n a b j le)
+
+-- ---- the cycle that an output holds
+
+numbers-at : (n : ℕ) (bs : List ℕ) (p d : ℕ) → p < n → getD (numbersIn n bs) p d ≡ twoBytes bs (2 * p)
+unfolding numbersIn
+numbers-at zero bs p d h = absurd (omega arith)
+numbers-at (suc n) bs zero d h = refl
+numbers-at (suc n) bs (suc p) d h =
+    numbers-at n (drop 2 bs) p d (omega arith)
+    ∙ ap₂ (λ x y. x + 256 * y) (getD-drop 2 bs (2 * p) 0 ∙ ap (λ k. getD bs k 0) low) (getD-drop 2 bs (2 * p + 1) 0 ∙ ap (λ k. getD bs k 0) high)
+  where
+    low : 2 + 2 * p ≡ 2 * suc p
+    low = omega arith
+
+    high : 2 + (2 * p + 1) ≡ 2 * suc p + 1
+    high = omega arith
+
+numbers-past : (n : ℕ) (bs : List ℕ) (p d : ℕ) → n ≤ p → getD (numbersIn n bs) p d ≡ d
+unfolding numbersIn
+numbers-past zero bs p d h = refl
+numbers-past (suc n) bs zero d h = absurd (omega arith)
+numbers-past (suc n) bs (suc p) d h = numbers-past n (drop 2 bs) p d (omega arith)
+
+-- the edge at a place, as it is read from the output's bytes
+module _ (n : ℕ) (bs : List ℕ) (p : ℕ) (h : p < n) where
+  pub origin-read : originOf (numbersIn n bs) p ≡ twoBytes bs (2 * p)
+  origin-read = numbers-at n bs p 0 h
+
+  pub goal-read : p + 1 < n → goalOf (numbersIn n bs) p ≡ twoBytes bs (2 * (p + 1))
+  goal-read k = numbers-at n bs (suc p) (getD (numbersIn n bs) 0 0) (omega arith) ∙ ap (λ m. twoBytes bs (2 * m)) (sym (add-one p))
+
+  pub goal-first : n ≤ p + 1 → goalOf (numbersIn n bs) p ≡ twoBytes bs (2 * 0)
+  goal-first k = numbers-past n bs (suc p) (getD (numbersIn n bs) 0 0) (omega arith) ∙ numbers-at n bs 0 0 (omega arith)

@@ -7,7 +7,7 @@ use mathlib.Core.List.{List}
 use lib.Dec.{T}
 use Rattle.trace.specs.Lists.{someOf, firstOf, from, below}
 use Rattle.trace.proofs.Tests.{T-of, T-is}
-use Rattle.trace.proofs.Lists.{Among, from-among, from-bound, from-le, below-has, below-bound, some-none, some-has, Holds, some-at, first-passes, first-among, first-least, first-is, first-default}
+use Rattle.trace.proofs.Lists.{Among, from-among, from-bound, from-le, below-has, below-bound, some-none, some-has, Holds, some-at, first-passes, first-among, first-least, first-below, first-is, first-default}
 
 module _ (hit : ℕ → ℕ → Bool) (n : ℕ) where
   abbrev later : ℕ → List ℕ
@@ -29,6 +29,16 @@ module _ (hit : ℕ → ℕ → Bool) (n : ℕ) where
 
   in-later : (i j : ℕ) → i < j → j < n → Among j (later i)
   in-later i j h k = from-among (suc i) (n - suc i) j (omega arith) (omega arith)
+
+  in-range : (i j : ℕ) → Among j (later i) → j < n
+  in-range i j a = let b : j < suc i + (n - suc i) = from-bound (suc i) (n - suc i) j a in let c : suc i ≤ j = from-le (suc i) (n - suc i) j a in omega arith
+
+  -- each of the two is below n
+  pub first-under : 0 < n → first < n
+  first-under h = first-below begins (below n) n h (below-bound n)
+
+  pub second-under : (i : ℕ) → 0 < n → second i < n
+  second-under i h = first-below (hit i) (later i) n h (in-range i)
 
   -- a first number of some pair
   begins-of : {i j : ℕ} → Pair i j → T (begins i)
@@ -63,10 +73,7 @@ module _ (hit : ℕ → ℕ → Bool) (n : ℕ) where
     pub first-at : ((k : ℕ) → k < i → (m : ℕ) → k < m → m < n → hit k m ≡ false) → first ≡ i
     first-at none =
         first-is begins 0 0 n i (omega arith) (omega (arith, p .ordered, p .within)) (T-is (begins i) (begins-of p))
-        (λ k h l. some-none (hit k) (later k) (λ m a. none k l m (from-le (suc k) (n - suc k) m a) (bounded k m (omega (arith, p .ordered, p .within)) a)))
-      where
-        bounded : (k m : ℕ) → k < n → Among m (later k) → m < n
-        bounded k m h a = let b : m < suc k + (n - suc k) = from-bound (suc k) (n - suc k) m a in omega arith
+        (λ k h l. some-none (hit k) (later k) (λ m a. none k l m (from-le (suc k) (n - suc k) m a) (in-range k m a)))
 
     pub second-at : ((m : ℕ) → i < m → m < j → hit i m ≡ false) → second i ≡ j
     second-at none =
@@ -74,9 +81,6 @@ module _ (hit : ℕ → ℕ → Bool) (n : ℕ) where
 
   -- where there is no pair, the defaults
   module _ (none : (i j : ℕ) → i < j → j < n → hit i j ≡ false) where
-    in-range : (i j : ℕ) → Among j (later i) → j < n
-    in-range i j a = let b : j < suc i + (n - suc i) = from-bound (suc i) (n - suc i) j a in let c : suc i ≤ j = from-le (suc i) (n - suc i) j a in omega arith
-
     pub second-none : (i : ℕ) → second i ≡ 0
     second-none i = first-default (hit i) 0 (later i) (λ j a. none i j (from-le (suc i) (n - suc i) j a) (in-range i j a))
 

@@ -115,6 +115,12 @@ unfolding from
 from-le s (suc n) a Among.top = omega arith
 from-le s (suc n) a (Among.deeper m) = omega (arith, from-le (suc s) n a m)
 
+pub from-at : (s n i d : ℕ) → i < n → getD (from s n) i d ≡ s + i
+unfolding from
+from-at s zero i d h = absurd (omega arith)
+from-at s (suc n) zero d h = sym (add-zero s)
+from-at s (suc n) (suc i) d h = from-at (suc s) n i d (omega arith) ∙ suc-add s i ∙ sym (add-suc s i)
+
 pub below-bound : (n a : ℕ) → Among a (below n) → a < n
 below-bound n a m = subst (λ k. a < k) (zero-add n) (from-bound 0 n a m)
 
@@ -305,6 +311,14 @@ unfolding from
 first-least p d s (suc n) x m t = by (p s)
     (λ e. omega (arith, first-true p d s (from (suc s) n) e, from-le s (suc n) x m))
     (λ e. omega (arith, first-false p d s (from (suc s) n) e, first-least p d (suc s) n x (among-cons m (λ q. absurd (subst T (ap p q ∙ e) t)) (λ k. k)) t))
+
+-- of numbers below m, it is below m
+pub first-below : (p : ℕ → Bool) (l : List ℕ) (m : ℕ) → 0 < m → ((x : ℕ) → Among x l → x < m) → firstOf p 0 l < m
+unfolding firstOf
+first-below p [] m h small = h
+first-below p (x ∷ l) m h small = by (p x)
+    (λ e. subst (λ k. k < m) (sym (first-true p 0 x l e)) (small x Among.top))
+    (λ e. subst (λ k. k < m) (sym (first-false p 0 x l e)) (first-below p l m h (λ y n. small y (Among.deeper n))))
 
 -- the one that passes where none before it does
 pub first-is : (p : ℕ → Bool) (d s n x : ℕ) → s ≤ x → x < s + n → p x ≡ true → ((y : ℕ) → s ≤ y → y < x → p y ≡ false) → firstOf p d (from s n) ≡ x
