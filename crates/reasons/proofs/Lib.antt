@@ -5,3 +5,4 @@ pub mod Hits
 pub mod Readings
 pub mod Causes
 pub mod Right
+pub mod Asking

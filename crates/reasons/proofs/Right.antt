@@ -31,7 +31,7 @@ told-refused : (input out work : List ℕ) (p n : ℕ) → refusal input out wor
 unfolding told
 told-refused input out work p n e = rw (e, told) (ap (λ m. Refused (record { number = m; «record» = refusal input out work .place })) e)
 
-told-fine : (input out work : List ℕ) (p : ℕ) → refusal input out work .number ≡ 0 → told input out work p ≡ toldOf (events input) p
+pub told-fine : (input out work : List ℕ) (p : ℕ) → refusal input out work .number ≡ 0 → told input out work p ≡ toldOf (events input) p
 unfolding told
 told-fine input out work p e = rw (e, told)
 
@@ -39,7 +39,7 @@ told-cooperable : (es : List Event) (p : ℕ) → shortest es ≡ 0 → toldOf e
 unfolding toldOf
 told-cooperable es p e = rw (e, toldOf)
 
-told-edge : (es : List Event) (p k : ℕ) → shortest es ≡ suc k → ltb p (length (cycleOf es (suc k))) ≡ true → toldOf es p ≡ Because (causeAt es k p)
+pub told-edge : (es : List Event) (p k : ℕ) → shortest es ≡ suc k → ltb p (length (cycleOf es (suc k))) ≡ true → toldOf es p ≡ Because (causeAt es k p)
 unfolding toldOf
 told-edge es p k e l = rw (e, l, toldOf)
 

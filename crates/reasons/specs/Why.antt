@@ -109,6 +109,10 @@ told input out work p =
     let no : Fault = refusal input out work in
     elim (no .number) [ zero ↦ toldOf (events input) p | suc n ↦ Refused (record { number = no .number; «record» = no .place }) ]
 
+-- A cause by numbers
+abbrev pub valuesOf : Cause → List ℕ
+valuesOf c = c .first ∷ c .second ∷ nameOf (c .reason) ∷ numberOf (c .reason) ∷ []
+
 -- Each case of what is told by numbers: its kind, and its values.
 -- 0 because: first record, second record, reason, its number.  1 no such edge.  2 refused: number and record
 pub record Numbers : Type 0 where
@@ -116,7 +120,7 @@ pub record Numbers : Type 0 where
   pub values : List ℕ
 
 abbrev pub numbers : Told → Numbers
-numbers (Because c) = record { kind = 0; values = c .first ∷ c .second ∷ nameOf (c .reason) ∷ numberOf (c .reason) ∷ [] }
+numbers (Because c) = record { kind = 0; values = valuesOf c }
 numbers NoSuchEdge = record { kind = 1; values = [] }
 numbers (Refused r) = record { kind = 2; values = r .number ∷ r .«record» ∷ [] }
 

@@ -3,7 +3,12 @@ mod reading;
 mod reasoning;
 mod searching;
 
+use checker::Answer;
 use checker::Refusal;
+ghost use mathlib.Core.Path.{_≡_};
+ghost use Rattle.checker.specs.Judged.{Judged, judged};
+ghost use Rattle.reasons.specs.Why.{numbers, Asked, asked};
+ghost use Rattle.reasons.specs.Lines.{explained};
 
 // On what two operations conflict: the thread, variable or lock of both, or the thread that one of them forks or joins.
 pub enum Reason {
@@ -25,4 +30,26 @@ pub enum Told {
     Because(Cause),
     NoSuchEdge,
     Refused(Refusal),
+}
+
+// Judges a recording, and tells why the edge at a place of the reported cycle is there.
+pub fn why(input: &[u8], out: &mut [u8], work: &mut [u64], place: usize) -> Told
+    ensures { λ r. ⌜ _≡_ {A = Asked} (record { answer = numbers r; out = now (out .exit); work = now (work .exit) })
+        (asked (now (input .entry)) (now (out .entry)) (now (work .entry)) place) ⌝ }
+{
+    match checker::judge(input, out, work) {
+        Answer::Refused(refusal) => Told::Refused(refusal),
+        Answer::Cooperable {
+            records: _,
+            transactions: _,
+        } => Told::NoSuchEdge,
+        Answer::Violation { record, length } => {
+            if length <= place {
+                return Told::NoSuchEdge;
+            }
+            let mut labels = [0u16; 1024];
+            let all = reading::read(input, record + 1, &mut labels);
+            Told::Because(searching::cause_at(all, &labels, record + 1, &*out, length, place))
+        }
+    }
 }
