@@ -9,7 +9,7 @@ use lib.ListN.{length, drop, take, length-append}
 use borrow.Author.Tests.{lt-ltb}
 use Rattle.record.specs.declared.Event.{Event}
 use Rattle.record.specs.Record.{inTwo}
-use Rattle.trace.specs.Lists.{each, over}
+use Rattle.trace.specs.Lists.{each, over, below}
 use Rattle.trace.proofs.Lists.{Earliest, earliest}
 use Rattle.graph.specs.Transactions.{Labelled, labelled, transactions}
 use Rattle.graph.specs.Violation.{cyclicUpTo, shortest, cycleOf}
@@ -30,6 +30,8 @@ use Rattle.reasons.specs.declared.Cause.{Cause}
 use Rattle.reasons.specs.declared.Told.{Told}
 use Rattle.reasons.specs.declared.Told.the-variants.{Because, NoSuchEdge, Refused}
 use Rattle.reasons.specs.Why.{causeOf, originOf, goalOf, causeAt, told, numbers, Asked, asked}
+use Rattle.reasons.specs.Lines.{line, lines, explained}
+use Rattle.reasons.specs.Telling.{lineAt}
 use Rattle.reasons.proofs.Right.{right, told-fine, told-edge}
 
 -- What a violation at record k with a cycle of n transactions says of a recording, and of the output that is left
@@ -100,11 +102,38 @@ module _ (input out work : List ℕ) where
           subst (λ m. Violates input out work (judged input out work .out) k m) (ap (λ y. y .second) x)
           (subst (λ m. Violates input out work (judged input out work .out) m (length (cycleOf (events input) (suc h)))) hk (violates h e q))
 
--- What was answered and left by the checker
+-- ---- all edges at once
+
+explained-refused : (input out work old : List ℕ) (n : ℕ) → refusal input out work .number ≡ suc n → explained input out work old ≡ old
+unfolding explained
+explained-refused input out work old n e = rw (e, explained)
+
+explained-fine : (input out work old : List ℕ) → refusal input out work .number ≡ 0 → explained input out work old ≡ over (lines (events input)) old
+unfolding explained
+explained-fine input out work old e = rw (e, explained)
+
+lines-empty : (es : List Event) → shortest es ≡ 0 → lines es ≡ []
+unfolding lines
+lines-empty es e = rw (e, lines)
+
+lines-some : (es : List Event) (k : ℕ) → shortest es ≡ suc k → lines es ≡ each (line es k) (below (length (cycleOf es (suc k))))
+unfolding lines
+lines-some es k e = rw (e, lines)
+
+over-none : (old : List ℕ) → over [] old ≡ old
+unfolding over
+over-none old = refl
+
+-- ---- What was answered and left by the checker
+
 module _ (input out work : List ℕ) (r : Answer) (out′ work′ : List ℕ)
     (j : _≡_ {A = Judged} (record { answer = Verdict.numbers r; out = out′; work = work′ }) (judged input out work)) where
   answer-is : (s : Answer) → r ≡ s → judged input out work .answer ≡ Verdict.numbers s
   answer-is s e = sym (ap (λ x. x .answer) j) ∙ ap Verdict.numbers e
+
+  -- the checker's answer itself
+  pub judged-as : (s : Answer) → r ≡ s → _≡_ {A = Judged} (record { answer = Verdict.numbers s; out = out′; work = work′ }) (judged input out work)
+  judged-as s e = ap (λ (x : Answer). record { answer = Verdict.numbers x; out = out′; work = work′ }) (sym e) ∙ j
 
   -- what is told, and what is left
   asked-as : (p : ℕ) (t : Told) → told input out work p ≡ t → _≡_ {A = Asked} (record { answer = numbers t; out = out′; work = work′ }) (asked input out work p)
@@ -139,3 +168,22 @@ module _ (input out work : List ℕ) (r : Answer) (out′ work′ : List ℕ)
     says-because p h c q =
         let v = violated in
         asked-as p (Because c) (told-fine input out work p (v .not-refused) ∙ told-edge (events input) p k (v .some) (lt-ltb p (length (cycleOf (events input) (suc k))) (omega (arith, h, v .size))) ∙ ap Because (sym q))
+
+    -- the lines that were written, of the records that arrays hold
+    pub lines-violation : (xs : List Labelled) (old now : List ℕ) → xs ≡ labelled (take (k + 1) (events input)) → now ≡ over (each (lineAt xs (numbersIn n out′)) (below n)) old
+        → now ≡ explained input out work old
+    unfolding lineAt causeAt
+    lines-violation xs old now q w =
+        let v = violated in
+        w ∙ ap₂ (λ l y. over (each (lineAt l y) (below n)) old) (q ∙ ap (λ m. labelled (take m (events input))) (add-one k)) (v .cycle-is)
+        ∙ ap (λ m. over (each (line (events input) k) (below m)) old) (v .size)
+        ∙ sym (explained-fine input out work old (v .not-refused) ∙ ap (λ l. over l old) (lines-some (events input) k (v .some)))
+
+  -- and where there is no violation, none
+  pub lines-none : (s : Answer) → r ≡ s → (Verdict.numbers s .kind ≡ 1 → ⊥) → (old : List ℕ) → old ≡ explained input out work old
+  lines-none s e other old = go (refusal input out work .number) refl (shortest (events input)) refl
+    where
+      go : (m : ℕ) → refusal input out work .number ≡ m → (h : ℕ) → shortest (events input) ≡ h → old ≡ explained input out work old
+      go (suc m) q h p = sym (explained-refused input out work old m q)
+      go zero q zero p = sym (explained-fine input out work old q ∙ ap (λ l. over l old) (lines-empty (events input) p) ∙ over-none old)
+      go zero q (suc h) p = absurd (other (sym (ap (λ a. a .kind) (answer-is s e)) ∙ ap (λ a. a .kind) (numbers-violation input out work h q p)))

@@ -6,3 +6,4 @@ pub mod Readings
 pub mod Causes
 pub mod Right
 pub mod Asking
+pub mod Tellings

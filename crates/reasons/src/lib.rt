@@ -2,10 +2,12 @@
 mod reading;
 mod reasoning;
 mod searching;
+mod telling;
 
 use checker::Answer;
 use checker::Refusal;
 ghost use mathlib.Core.Path.{_≡_};
+ghost use Rattle.checker.specs.Verdict as Verdict;
 ghost use Rattle.checker.specs.Judged.{Judged, judged};
 ghost use Rattle.reasons.specs.Why.{numbers, Asked, asked};
 ghost use Rattle.reasons.specs.Lines.{explained};
@@ -52,4 +54,26 @@ pub fn why(input: &[u8], out: &mut [u8], work: &mut [u64], place: usize) -> Told
             Told::Because(searching::cause_at(all, &labels, record + 1, &*out, length, place))
         }
     }
+}
+
+// Judges a recording, and tells why each edge of the reported cycle is there: four numbers for each, in cycle order.
+pub fn explain(input: &[u8], out: &mut [u8], work: &mut [u64], lines: &mut [u16; 2048]) -> Answer
+    ensures { λ r. ⌜ (_≡_ {A = Judged} (record { answer = Verdict.numbers r; out = now (out .exit); work = now (work .exit) })
+        (judged (now (input .entry)) (now (out .entry)) (now (work .entry))))
+        × (now (lines .exit) ≡ explained (now (input .entry)) (now (out .entry)) (now (work .entry)) (now (lines .entry))) ⌝ }
+{
+    let answer = checker::judge(input, out, work);
+    match answer {
+        Answer::Violation { record, length } => {
+            let mut labels = [0u16; 1024];
+            let all = reading::read(input, record + 1, &mut labels);
+            telling::write_lines(all, &labels, record + 1, &*out, length, lines);
+        }
+        Answer::Cooperable {
+            records: _,
+            transactions: _,
+        } => {}
+        Answer::Refused(_) => {}
+    }
+    answer
 }
