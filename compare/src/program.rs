@@ -1,4 +1,4 @@
-//! The program `judge`, run as a process of its own.
+//! The programs `judge` and `why`, run as processes of their own.
 
 use std::io::{self, Read, Write};
 use std::path::{Path, PathBuf};
@@ -6,28 +6,41 @@ use std::process::{Child, Command, Stdio};
 use std::thread::sleep;
 use std::time::Duration;
 
-/// How the program is started on this machine.
+/// What a program has to print for a standard input.
+type Expected = fn(&[u8]) -> String;
+
+/// How the program is started on this machine, and what it is held to.
 pub struct Program {
+    name: &'static str,
     words: Vec<PathBuf>,
+    expected: Expected,
 }
 
 impl Program {
-    /// Finds target/bin/judge and a way to run it: by itself, by the kit's loader, or, on a
-    /// processor other than x86-64, by the kit's emulator.
-    pub fn find() -> Result<Program, String> {
-        let path = Path::new(env!("CARGO_MANIFEST_DIR")).join("../target/bin/judge");
+    pub fn judge() -> Result<Program, String> {
+        Program::find("judge", reference::report)
+    }
+
+    pub fn why() -> Result<Program, String> {
+        Program::find("why", reference::why::report)
+    }
+
+    /// Finds the program in target/bin and a way to run it: by itself, by the kit's loader, or, on
+    /// a processor other than x86-64, by the kit's emulator.
+    fn find(name: &'static str, expected: Expected) -> Result<Program, String> {
+        let path = Path::new(env!("CARGO_MANIFEST_DIR")).join("../target/bin").join(name);
         if !path.exists() {
-            return Err("target/bin/judge is not there: make it by `rt check judge`".to_string());
+            return Err(format!("target/bin/{name} is not there: make it by `rt check {name}`"));
         }
-        let by_itself = Program { words: vec![path.clone()] };
+        let by_itself = Program { name, words: vec![path.clone()], expected };
         if by_itself.starts() {
             return Ok(by_itself);
         }
-        let by_the_kit = Program { words: words_of_the_kit(path)? };
+        let by_the_kit = Program { name, words: words_of_the_kit(path)?, expected };
         if by_the_kit.starts() {
             return Ok(by_the_kit);
         }
-        Err("target/bin/judge does not start, by itself or by the kit's loader".to_string())
+        Err(format!("target/bin/{name} does not start, by itself or by the kit's loader"))
     }
 
     fn starts(&self) -> bool {
@@ -63,18 +76,20 @@ impl Program {
         }
         let status = child.wait()?;
         if !status.success() {
-            return Err(io::Error::other(format!("judge ended with {status}")));
+            return Err(io::Error::other(format!("{} ended with {status}", self.name)));
         }
         Ok(String::from_utf8_lossy(&text).into_owned())
     }
 
     /// What it and the reference differ in, in words.
     pub fn difference(&self, input: &[u8], pieces: usize) -> Option<String> {
-        let expected = reference::report(input);
+        let (name, expected) = (self.name, (self.expected)(input));
         match self.printed(input, pieces) {
             Ok(printed) if printed == expected => None,
-            Ok(printed) => Some(format!("judge prints:\n{printed}\nreference prints:\n{expected}")),
-            Err(error) => Some(format!("judge: {error}")),
+            Ok(printed) => {
+                Some(format!("{name} prints:\n{printed}\nreference prints:\n{expected}"))
+            }
+            Err(error) => Some(format!("{name}: {error}")),
         }
     }
 }

@@ -12,7 +12,7 @@ use crate::shrink::shrink;
 use crate::small::alphabets;
 use crate::swapped::{outcome, Outcome};
 use crate::tally::Tally;
-use crate::{fixed, recordings, regressions};
+use crate::{edges, fixed, recordings, regressions};
 
 /// After so many failures a run stops: the first ones say enough.
 const MOST_FAILURES: u64 = 5;
@@ -45,6 +45,9 @@ pub fn run(options: &Options) -> u64 {
     run.phase("recordings and all their swaps", |run| run.swaps(options.swaps, options.seed));
     if options.program > 0 {
         run.phase("runs of the program", |run| run.program(options.program, options.seed));
+    }
+    if options.why > 0 {
+        run.phase("runs of the program why", |run| run.why(options.why, options.seed));
     }
     run.tally.print();
     // A run of full size has to have met every refusal at every kind of record.
@@ -119,7 +122,25 @@ impl Run {
     }
 
     fn program(&mut self, count: u64, seed: u64) {
-        let program = match Program::find() {
+        let mut numbers = Numbers::from_seed(seed.rotate_left(32));
+        let mut inputs = kept_and_fixed();
+        inputs.extend((0..count).map(|_| recordings::any(&mut numbers)));
+        self.runs(Program::judge(), inputs);
+    }
+
+    fn why(&mut self, count: u64, seed: u64) {
+        let mut numbers = Numbers::from_seed(!seed.rotate_left(32));
+        let mut inputs = kept_and_fixed();
+        inputs.extend(edges::recordings());
+        inputs.extend((0..count).map(|_| recordings::violation(&mut numbers)));
+        inputs.extend((0..count).map(|_| recordings::any(&mut numbers)));
+        edges::print(&inputs);
+        self.runs(Program::why(), inputs);
+    }
+
+    /// Runs the program on each; one that isn't there is a failure.
+    fn runs(&mut self, found: Result<Program, String>, inputs: Vec<Vec<u8>>) {
+        let program = match found {
             Ok(program) => program,
             Err(said) => {
                 println!("{said}");
@@ -127,11 +148,6 @@ impl Run {
                 return;
             }
         };
-        let mut numbers = Numbers::from_seed(seed.rotate_left(32));
-        let kept = regressions::kept().expect("the kept cases can be read");
-        let mut inputs: Vec<Vec<u8>> = kept.into_iter().map(|(_, case)| case.input).collect();
-        inputs.extend(fixed::recordings());
-        inputs.extend((0..count).map(|_| recordings::any(&mut numbers)));
         for (place, input) in inputs.into_iter().enumerate() {
             // Now and then the input comes in pieces, as a pipe may give it.
             let pieces = if place % 8 == 0 { 3 } else { 1 };
@@ -155,6 +171,13 @@ impl Run {
         let small = shrink(case, &|candidate| differs(candidate).is_some());
         show(&small, differs);
     }
+}
+
+fn kept_and_fixed() -> Vec<Vec<u8>> {
+    let kept = regressions::kept().expect("the kept cases can be read");
+    let mut inputs: Vec<Vec<u8>> = kept.into_iter().map(|(_, case)| case.input).collect();
+    inputs.extend(fixed::recordings());
+    inputs
 }
 
 fn swaps_differ(case: &Case) -> Option<String> {

@@ -11,6 +11,7 @@ pub mod record;
 mod report;
 pub mod swaps;
 pub mod transactions;
+pub mod why;
 pub mod words;
 
 pub use judge::{faults, judge, possible_history, Answer, MOST_BYTES, WORK_AREA};
