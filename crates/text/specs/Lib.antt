@@ -1,0 +1,4 @@
+pub mod Decimal
+pub mod Line
+pub mod File
+pub mod Examples
