@@ -384,3 +384,14 @@ module _ {A : Type 0} {P Q : A → Type 0} {R : A → A → Type 0} (both : (x y
   pub every-pair : (l k : List A) → Every P l → Every Q k → Every (λ x. Every (R x) k) l
   every-pair [] k p q = tt
   every-pair (x ∷ l) k p q = (every-second x (p .0) k q, every-pair l k (p .1) q)
+pub all-none : {A : Type 0} (p : A → Bool) → allOf p [] ≡ true
+unfolding allOf
+all-none p = refl
+
+pub all-cons : {A : Type 0} (p : A → Bool) (x : A) (l : List A) → allOf p (x ∷ l) ≡ (p x && allOf p l)
+unfolding allOf
+all-cons p x l = go (p x)
+  where
+    go : (b : Bool) → (elim b as (λ c. Bool) [ true ↦ allOf p l | false ↦ false ]) ≡ (b && allOf p l)
+    go true = refl
+    go false = refl
