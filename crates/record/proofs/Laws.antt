@@ -191,12 +191,12 @@ faultless bs h =
 -- ---- The round trip
 
 -- an operation made of a kind, a target and a value in range has these
-record Parts (k x v : ℕ) : Type 0 where
-  kind-is : kind (operation k x v) ≡ k
-  target-is : target (operation k x v) ≡ x
-  value-is : value (operation k x v) ≡ v
+pub record Parts (k x v : ℕ) : Type 0 where
+  pub kind-is : kind (operation k x v) ≡ k
+  pub target-is : target (operation k x v) ≡ x
+  pub value-is : value (operation k x v) ≡ v
 
-parts : (k x v : ℕ) → 1 ≤ k → k ≤ 10 → x ≤ targetLimit k → (2 < k → v ≡ 0) → Parts k x v
+pub parts : (k x v : ℕ) → 1 ≤ k → k ≤ 10 → x ≤ targetLimit k → (2 < k → v ≡ 0) → Parts k x v
 unfolding operation targetLimit
 parts zero x v p q r z = absurd (omega arith)
 parts (suc zero) x v p q r z = record { kind-is = refl; target-is = refl; value-is = refl }
