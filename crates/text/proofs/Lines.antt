@@ -322,3 +322,35 @@ one-line e r = record { line = lineOf e; reads = read-written e r; only = λ l h
 pub line-tells : (e f : Event) → T (inRange e) → T (inRange f) → lineOf e ≡ lineOf f → e ≡ f
 line-tells e f r s h =
     let g : Good e ≡ Good f = sym (read-written e r) ∙ ap lineRead h ∙ read-written f s in cc g
+
+-- ---- The only refusal of a line is 14
+
+abbrev pub Fourteen : Decoded → Type 0
+Fourteen (Good e) = Unit {0}
+Fourteen (Refused f) = f .number ≡ 14
+
+fields-fourteen : (t k : ℕ) (ws : List (List ℕ)) → Fourteen (readFields t k ws)
+fields-fourteen t k ws = by (fit (limits k) ws)
+    (λ b. subst Fourteen (sym (fields-good t k ws b)) tt)
+    (λ b. subst Fourteen (sym (fields-bad t k ws b)) refl)
+
+operation-fourteen : (t : ℕ) (ws : List (List ℕ)) → Fourteen (readOperation t ws)
+unfolding readOperation
+operation-fourteen t [] = refl
+operation-fourteen t (w ∷ ws) = go (kindNamed w) refl
+  where
+    go : (k : ℕ) → kindNamed w ≡ k → Fourteen (readOperation t (w ∷ ws))
+    go zero n = subst Fourteen (sym (operation-none t w ws n)) refl
+    go (suc k) n = subst Fourteen (sym (operation-named t (suc k) w ws n (omega arith))) (fields-fourteen t (suc k) ws)
+
+words-fourteen : (ws : List (List ℕ)) → Fourteen (readWords ws)
+unfolding readWords
+words-fourteen [] = refl
+words-fourteen (w ∷ ws) = by (isNumber 15 w)
+    (λ n. subst Fourteen (sym (words-good w ws n)) (operation-fourteen (valueOf w) ws))
+    (λ n. subst Fourteen (sym (words-bad w ws n)) refl)
+
+pub line-fourteen : (line : List ℕ) → Fourteen (lineRead line)
+line-fourteen line = by (eqb (lastByte line) lineFeed)
+    (λ n. subst Fourteen (sym (line-ended line (eqb-true (lastByte line) lineFeed n))) (words-fourteen (words (butLast line))))
+    (λ n. subst Fourteen (sym (line-unended line (eqb-false (lastByte line) lineFeed n))) refl)

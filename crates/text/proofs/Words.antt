@@ -27,7 +27,7 @@ abbrev pub AllLack : ℕ → List (List ℕ) → Type 0
 AllLack c [] = Unit {0}
 AllLack c (w ∷ ws) = (lacks c w ≡ true) × AllLack c ws
 
-lacks-first : (c x : ℕ) (w : List ℕ) → lacks c (x ∷ w) ≡ true → (eqb x c ≡ false) × (lacks c w ≡ true)
+pub lacks-first : (c x : ℕ) (w : List ℕ) → lacks c (x ∷ w) ≡ true → (eqb x c ≡ false) × (lacks c w ≡ true)
 lacks-first c x w h =
     let p = and-true (not (eqb x c)) (lacks c w) (sym (all-cons (λ y. not (eqb y c)) x w) ∙ h) in
     (not-true (eqb x c) (p .0), p .1)
