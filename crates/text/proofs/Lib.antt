@@ -2,3 +2,4 @@ pub mod Decimals
 pub mod Words
 pub mod Lines
 pub mod Files
+pub mod Scans

@@ -2,3 +2,4 @@ pub mod Decimal
 pub mod Line
 pub mod File
 pub mod Examples
+pub mod Steps

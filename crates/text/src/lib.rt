@@ -1,4 +1,5 @@
 // The written form of records, for tests: a line for each, such as `0 write 3 5`.
+mod scan;
 
 // Why a file is refused: the number, and the line or the record that it is given at.
 pub struct Refusal {
