@@ -163,6 +163,9 @@ reads limit w h =
     let c = and-true (allOf isDigit w) (leb (valueOf w) limit) (b .1) in
     record { some = leb-true 1 (length w) (a .0); led = not-true (zeroLed w) (b .0); all-digits = c .0; within = leb-true (valueOf w) limit (c .1) }
 
+pub number-digits : (limit : ℕ) (w : List ℕ) → isNumber limit w ≡ true → allOf isDigit w ≡ true
+number-digits limit w h = reads limit w h .all-digits
+
 pub number-within : (limit : ℕ) (w : List ℕ) → isNumber limit w ≡ true → valueOf w ≤ limit
 number-within limit w h = reads limit w h .within
 

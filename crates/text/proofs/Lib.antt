@@ -3,3 +3,4 @@ pub mod Words
 pub mod Lines
 pub mod Files
 pub mod Scans
+pub mod Readings

@@ -164,6 +164,10 @@ pub line-unended : (line : List ℕ) → (lastByte line ≡ lineFeed → ⊥) �
 unfolding lineRead
 line-unended line h = rw (ne-eqb (lastByte line) lineFeed h, lineRead)
 
+pub line-empty : (line : List ℕ) → length line ≡ 0 → lineRead line ≡ formless
+line-empty [] h = line-unended [] (λ e. omega arith)
+line-empty (c ∷ line) h = absurd (omega arith)
+
 -- ---- What is written is read back
 
 -- a line feed after anything

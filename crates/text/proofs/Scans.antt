@@ -10,7 +10,7 @@ use lib.Seq.{drop-cons, getD-take}
 use lib.Dec.{T, leb, ltb, eqb}
 use borrow.Author.Tests.{le-leb, lt-leb, eq-eqb, ne-eqb, eqb-true, leb-true}
 use Rattle.trace.specs.Lists.{allOf}
-use Rattle.trace.proofs.Tests.{by}
+use Rattle.trace.proofs.Tests.{by, and-true}
 use Rattle.trace.proofs.Lists.{all-none, all-cons}
 use Rattle.text.specs.Decimal.{isDigit, valueFrom, valueOf, zeroLed, isNumber}
 use Rattle.text.specs.Line.{names, name, ascii, sameWord, placeFrom, kindNamed}
@@ -55,6 +55,13 @@ run-over limit v w h =
     none : (a : Bool) → cond (a && false) (suc (valueFrom v w)) 0 ≡ 0
     none true = refl
     none false = refl
+
+pub run-low : (limit v : ℕ) (w : List ℕ) → runIn limit v w ≤ limit + 1
+unfolding runIn
+run-low limit v w = by (allOf isDigit w && leb (valueFrom v w) limit)
+    (λ e. let l : valueFrom v w ≤ limit = leb-true (valueFrom v w) limit (and-true (allOf isDigit w) (leb (valueFrom v w) limit) e .1) in
+    subst (λ b. cond b (suc (valueFrom v w)) 0 ≤ limit + 1) (sym e) (omega arith))
+    (λ e. subst (λ b. cond b (suc (valueFrom v w)) 0 ≤ limit + 1) (sym e) (omega arith))
 
 run-digit : (limit v c : ℕ) (w : List ℕ) → isDigit c ≡ true → runIn limit v (c ∷ w) ≡ runIn limit (10 * v + (c - 48)) w
 unfolding runIn valueFrom

@@ -40,7 +40,7 @@ lacks-both c [] v p q = q
 lacks-both c (x ∷ w) v p q = let h = lacks-first c x w p in lacks-cons c x (w ++ v) (h .0) (lacks-both c w v (h .1) q)
 
 -- digits are above 47
-digits-lack : (c : ℕ) (w : List ℕ) → c < 48 → allOf isDigit w ≡ true → lacks c w ≡ true
+pub digits-lack : (c : ℕ) (w : List ℕ) → c < 48 → allOf isDigit w ≡ true → lacks c w ≡ true
 digits-lack c [] l h = all-none (λ y. not (eqb y c))
 digits-lack c (x ∷ w) l h =
     let p = and-true (isDigit x) (allOf isDigit w) (sym (all-cons isDigit x w) ∙ h) in
@@ -72,7 +72,7 @@ unfolding words
 words-on c bs e = rw (e, words)
 
 -- there is always a first word
-words-some : (bs : List ℕ) → 1 ≤ length (words bs)
+pub words-some : (bs : List ℕ) → 1 ≤ length (words bs)
 unfolding words glued
 words-some [] = omega arith
 words-some (c ∷ bs) = by (eqb c space)

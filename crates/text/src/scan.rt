@@ -1,6 +1,6 @@
 // Words within bytes: where one ends, which number it is, which operation it names.
 ghost use mathlib.Core.Path.{_≡_};
-ghost use Prim.Native.Nat.{_≤_, _<_};
+ghost use Prim.Native.Nat.{_+_, _≤_, _<_};
 ghost use lib.ListN.{length, getD};
 ghost use Rattle.text.specs.Line.{name, sameWord, kindNamed};
 ghost use Rattle.text.specs.Steps.{before, runIn, numberIn};
@@ -41,7 +41,7 @@ pub fn letter(kind: u8, j: usize) -> u8
 
 // The place of the first byte c, or the length where there is none.
 pub fn find(bytes: &[u8], c: u8) -> usize
-    ensures { λ r. ⌜ r ≡ before c (now (bytes .entry)) ⌝ }
+    ensures { λ r. ⌜ (r ≡ before c (now (bytes .entry))) × (r ≤ length (now (bytes .entry))) ⌝ }
 {
     let mut i = 0;
     while i < bytes.len() {
@@ -78,7 +78,7 @@ fn run(word: &[u8], limit: u16) -> u32
 
 // The number that a word is, and 1; 0 where it is none within the limit.
 pub fn number(word: &[u8], limit: u16) -> u32
-    ensures { λ r. ⌜ r ≡ numberIn limit (now (word .entry)) ⌝ }
+    ensures { λ r. ⌜ (r ≡ numberIn limit (now (word .entry))) × (r ≤ limit + 1) ⌝ }
 {
     if word.len() < 1 {
         return 0;

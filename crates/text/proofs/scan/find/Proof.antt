@@ -25,7 +25,7 @@ returns : tie.Need-returns Inv-loop μ-loop
 returns c =
     let at = c .before .before .before .loop in
     let a = c .before .before .before .before .args in
-    omega (arith, before-here (a .c) (a .bytes .now) (at .i) (omega arith) (c .if1 .taken))
+    (omega (arith, before-here (a .c) (a .bytes .now) (at .i) (omega arith) (c .if1 .taken)), omega arith)
 
 add-i : tie.Need-add-i Inv-loop μ-loop
 add-i c = omega arith
@@ -43,7 +43,7 @@ returns-2 : tie.Need-returns-2 Inv-loop μ-loop
 returns-2 c =
     let at = c .before .loop in
     let a = c .before .before .args in
-    omega (arith, before-end (a .c) (a .bytes .now) (at .i) (omega arith))
+    (omega (arith, before-end (a .c) (a .bytes .now) (at .i) (omega arith)), omega arith)
 
 pub find-spec : {M : Type 1} → statement M
 find-spec =
