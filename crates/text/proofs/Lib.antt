@@ -4,3 +4,4 @@ pub mod Lines
 pub mod Files
 pub mod Scans
 pub mod Readings
+pub mod Makings

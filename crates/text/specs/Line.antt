@@ -7,6 +7,7 @@ use mathlib.Core.Bool.{Bool, true, false, cond, _&&_}
 use mathlib.Core.List.{List, [], _∷_, _++_, map}
 use lib.ListN.{length, take, getD}
 use lib.Dec.{leb, eqb}
+use Rattle.trace.specs.Lists.{over}
 use Rattle.record.specs.declared.Event.{Event}
 use Rattle.record.specs.declared.Op.{Op}
 use Rattle.record.specs.declared.Decoded.{Decoded}
@@ -66,6 +67,13 @@ spaced (w ∷ v ∷ ws) = w ++ (space ∷ spaced (v ∷ ws))
 -- The line of an event
 unfoldable pub lineOf : Event → List ℕ
 lineOf e = spaced (wordsOf e) ++ (lineFeed ∷ [])
+
+-- An event's line written at the front of an output, or nothing where it doesn't fit; and how many bytes that is
+unfoldable pub lineOver : Event → List ℕ → List ℕ
+lineOver e old = cond (leb (length (lineOf e)) (length old)) (over (lineOf e) old) old
+
+unfoldable pub lineRoom : Event → List ℕ → ℕ
+lineRoom e old = cond (leb (length (lineOf e)) (length old)) (length (lineOf e)) 0
 
 -- ---- Reading
 
@@ -141,5 +149,5 @@ lineRead line = elim (eqb (lastByte line) lineFeed) [ true ↦ readWords (words 
 
 -- Everything above, opened at once, for a proof by computation: `unfolding opened`
 unfoldable pub opened : Unit {0}
-unfolding Rattle.text.specs.Decimal.opened Rattle.record.specs.Record.opened ascii names name fieldCount fields wordsOf spaced lineOf glued words sameWord placeFrom kindNamed limits fit readFields readOperation readWords lineRead
+unfolding Rattle.text.specs.Decimal.opened Rattle.record.specs.Record.opened ascii names name fieldCount fields wordsOf spaced lineOf lineOver lineRoom glued words sameWord placeFrom kindNamed limits fit readFields readOperation readWords lineRead
 opened = tt

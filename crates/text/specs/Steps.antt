@@ -1,12 +1,14 @@
 -- What the private functions promise. Nothing here has to be believed: the public promises stand in Line and File.
-use Prim.Native.Nat.{ℕ, zero, suc, _+_}
+use Prim.Native.Nat.{ℕ, zero, suc, _+_, _≤_}
 use mathlib.Core.Path.{_≡_}
 use mathlib.Core.Bool.{true, false, cond, _&&_}
 use mathlib.Core.List.{List, [], _∷_, _++_}
 use lib.ListN.{length, take}
 use lib.Dec.{leb, eqb}
 use Rattle.trace.specs.Lists.{allOf}
-use Rattle.text.specs.Decimal.{isDigit, valueFrom, valueOf, isNumber}
+use Rattle.text.specs.declared.making.Line.{Line}
+use Rattle.text.specs.Decimal.{decimal, isDigit, valueFrom, valueOf, isNumber}
+use Rattle.text.specs.Line.{space}
 
 -- how many bytes stand before the first c; all where there is none
 unfoldable pub before : ℕ → List ℕ → ℕ
@@ -20,3 +22,23 @@ runIn limit v w = cond (allOf isDigit w && leb (valueFrom v w) limit) (suc (valu
 -- the number that a word is, and 1; 0 where it is none within the limit
 unfoldable pub numberIn : ℕ → List ℕ → ℕ
 numberIn limit w = cond (isNumber limit w) (suc (valueOf w)) 0
+
+-- what a line holds while it is being made
+abbrev pub contents : Line → List ℕ
+contents l = take (l .len) (l .bytes)
+
+-- a line with these bytes put after it
+pub record Longer (l : Line) (bytes : List ℕ) (r : Line) : Type 0 where
+  pub same : contents r ≡ contents l ++ bytes
+  pub size : r .len ≡ l .len + length bytes
+
+-- a line that holds these bytes
+pub record Holds (l : Line) (bytes : List ℕ) : Type 0 where
+  pub same : contents l ≡ bytes
+  pub size : l .len ≡ length bytes
+  pub within : l .len ≤ 24
+
+-- numbers, each after a space
+unfoldable pub spacedOut : List ℕ → List ℕ
+spacedOut [] = []
+spacedOut (n ∷ ns) = space ∷ decimal n ++ spacedOut ns

@@ -1,4 +1,5 @@
 // The written form of records, for tests: a line for each, such as `0 write 3 5`.
+mod making;
 mod reading;
 mod scan;
 
