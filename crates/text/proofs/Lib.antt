@@ -5,3 +5,4 @@ pub mod Files
 pub mod Scans
 pub mod Readings
 pub mod Makings
+pub mod Wholes

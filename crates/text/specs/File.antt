@@ -29,6 +29,9 @@ pub record Ending : Type 0 where
   pub answer : Numbers
   pub out : List ℕ
 
+abbrev pub ending : Outcome → List ℕ → Ending
+ending r out = record { answer = numbers r; out = out }
+
 -- these bytes are written, and the output past them is left
 unfoldable pub done : List ℕ → List ℕ → Ending
 done bytes out = record { answer = record { kind = 0; first = length bytes; second = 0 }; out = over bytes out }

@@ -2,10 +2,12 @@
 mod making;
 mod reading;
 mod scan;
+mod whole;
 
 use record::Decoded;
+use record::Event;
 ghost use mathlib.Core.Path.{_≡_};
-ghost use Rattle.text.specs.Line.{lineRead};
+ghost use Rattle.text.specs.Line.{lineRead, lineOver, lineRoom};
 
 // Why a file is refused: the number, and the line or the record that it is given at.
 pub struct Refusal {
@@ -31,4 +33,21 @@ pub fn read_line(line: &[u8]) -> Decoded
         return reading::formless();
     }
     reading::body(&line[..last])
+}
+
+// Writes the line of an event at the front of an output, where it fits; how many bytes that was.
+pub fn write_line(e: Event, out: &mut [u8]) -> usize
+    ensures { λ r. ⌜ (r ≡ lineRoom e (now (out .entry))) × (now (out .exit) ≡ lineOver e (now (out .entry))) ⌝ }
+{
+    let line = making::line_of(e);
+    let size = line.len;
+    if out.len() < size {
+        return 0;
+    }
+    let mut i = 0;
+    while i < size {
+        out[i] = line.bytes[i];
+        i += 1;
+    }
+    size
 }
