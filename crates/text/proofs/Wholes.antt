@@ -96,9 +96,10 @@ unfolding records
 records-begin bs l =
     let n : length bs / 8 ≡ suc (length (drop 8 bs) / 8) = omega (arith, length-drop 8 bs) in ap (λ k. records k bs) n
 
-pub records-at : (input : List ℕ) (at : ℕ) → at + 8 ≤ length input → recordsOf (drop at input) ≡ take 8 (drop at input) ∷ recordsOf (drop (at + 8) input)
+pub records-at : (input : List ℕ) (at : ℕ) → at + 8 ≤ length input → recordsOf (drop at input) ≡ take (at + 8 - at) (drop at input) ∷ recordsOf (drop (at + 8) input)
 records-at input at l =
-    records-begin (drop at input) (omega (arith, length-drop at input)) ∙ ap (λ r. take 8 (drop at input) ∷ recordsOf r) (drop-drop 8 at input)
+    let n : at + 8 - at ≡ 8 = omega arith in
+    records-begin (drop at input) (omega (arith, length-drop at input)) ∙ ap₂ (λ m r. take m (drop at input) ∷ recordsOf r) (sym n) (drop-drop 8 at input)
 
 pub records-end : (input : List ℕ) (at : ℕ) → length input ≤ at → recordsOf (drop at input) ≡ []
 unfolding records

@@ -1,5 +1,6 @@
 // Whole files, part by part: a pass that finds the first refusal, and a pass that writes.
 use crate::Refusal;
+use crate::making::line_of;
 use crate::read_line;
 use crate::scan::find;
 use crate::write_line;
@@ -96,6 +97,86 @@ pub fn put_records(text: &[u8], out: &mut [u8]) -> usize
     while at < text.len() {
         let end = line_end(text, at);
         n += put_record(&text[at..end], &mut out[n..]);
+        at = end;
+    }
+    n
+}
+
+// The first record with a fault; number 0 where there is none.
+pub fn first_faulty(input: &[u8]) -> Refusal
+    requires { ⌜ length (now input) % 8 ≡ 0 ⌝ }
+    ensures { λ r. ⌜ Told r (firstRefused decoded 0 (recordsOf (now (input .entry)))) ⌝ }
+{
+    let mut at = 0;
+    let mut place = 0;
+    while at < input.len() {
+        let end = at + 8;
+        let number = fault_number(record::decode(&input[at..end]));
+        if number != 0 {
+            return Refusal {
+                number,
+                record: place,
+            };
+        }
+        at = end;
+        place += 1;
+    }
+    Refusal {
+        number: 0,
+        record: 0,
+    }
+}
+
+// How many bytes the line of a record has; 0 where it has none.
+fn line_size(bytes: &[u8]) -> usize
+    ensures { λ r. ⌜ (r ≡ length (partBytes lineOf (decoded (now (bytes .entry))))) × (r ≤ 24) ⌝ }
+{
+    match record::decode(bytes) {
+        Decoded::Good(e) => {
+            let line = line_of(e);
+            line.len
+        }
+        Decoded::Refused(_) => 0,
+    }
+}
+
+// How many bytes the lines of all records have.
+pub fn text_size(input: &[u8]) -> usize
+    requires { ⌜ (length (now input) % 8 ≡ 0) × (length (now input) ≤ 8192) ⌝ }
+    ensures { λ r. ⌜ r ≡ length (allBytes lineOf decoded (recordsOf (now (input .entry)))) ⌝ }
+{
+    let mut at = 0;
+    let mut size = 0;
+    while at < input.len() {
+        let end = at + 8;
+        size += line_size(&input[at..end]);
+        at = end;
+    }
+    size
+}
+
+// The line of a record, at the front of an output; how many bytes that was.
+fn put_line(bytes: &[u8], out: &mut [u8]) -> usize
+    requires { ⌜ length (partBytes lineOf (decoded (now bytes))) ≤ length (now out) ⌝ }
+    ensures { λ r. ⌜ (r ≡ length (partBytes lineOf (decoded (now (bytes .entry))))) × (now (out .exit) ≡ over (partBytes lineOf (decoded (now (bytes .entry)))) (now (out .entry))) ⌝ }
+{
+    match record::decode(bytes) {
+        Decoded::Good(e) => write_line(e, out),
+        Decoded::Refused(_) => 0,
+    }
+}
+
+// The lines of all records; how many bytes they are.
+pub fn put_lines(input: &[u8], out: &mut [u8]) -> usize
+    requires { ⌜ length (now input) % 8 ≡ 0 ⌝ }
+    requires { ⌜ length (allBytes lineOf decoded (recordsOf (now input))) ≤ length (now out) ⌝ }
+    ensures { λ r. ⌜ (r ≡ length (allBytes lineOf decoded (recordsOf (now (input .entry))))) × (now (out .exit) ≡ over (allBytes lineOf decoded (recordsOf (now (input .entry)))) (now (out .entry))) ⌝ }
+{
+    let mut at = 0;
+    let mut n = 0;
+    while at < input.len() {
+        let end = at + 8;
+        n += put_line(&input[at..end], &mut out[n..]);
         at = end;
     }
     n
