@@ -6,3 +6,4 @@ pub mod Scans
 pub mod Readings
 pub mod Makings
 pub mod Wholes
+pub mod Endings
