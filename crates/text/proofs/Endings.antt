@@ -1,11 +1,10 @@
 -- Laws of the whole answer: each way in which the two public functions end, and that two answers with the same numbers are the same answer.
-use Prim.Native.Nat.{ℕ, zero, suc, _*_, _%_, _≤_, _<_}
+use Prim.Native.Nat.{ℕ, _*_, _%_, _≤_, _<_}
 use native.Mathlib.Omega.{arith}
-use mathlib.Core.Path.{_≡_, refl, sym, ap, ap₂, subst, _∙_}
+use mathlib.Core.Path.{_≡_, refl, sym, ap, ap₂, _∙_}
 use mathlib.Core.Logic.{_≢_}
 use mathlib.Core.List.{List}
 use lib.ListN.{length}
-use lib.Dec.{leb, eqb}
 use borrow.Author.Tests.{le-leb, lt-leb, eq-eqb, ne-eqb}
 use Rattle.trace.specs.Lists.{each, over}
 use Rattle.record.specs.declared.Event.{Event}
@@ -15,10 +14,10 @@ use Rattle.text.specs.declared.Refusal.{Refusal}
 use Rattle.text.specs.declared.Outcome.{Outcome}
 use Rattle.text.specs.declared.Outcome.the-variants.{Done, Refused}
 use Rattle.text.specs.Line.{lineOf, lineRead}
-use Rattle.text.specs.File.{Numbers, numbers, Ending, ending, done, refused, Fault, firstRefused, events, feeds, lines, readChecks, readText, recordsOf, writeChecks, writeText}
+use Rattle.text.specs.File.{numbers, ending, done, refused, Fault, firstRefused, events, feeds, lines, readChecks, readText, recordsOf, writeChecks, writeText}
 use Rattle.text.specs.Steps.{Told, allBytes}
 use Rattle.text.proofs.Words.{lines-together}
-use Rattle.text.proofs.Files.{AllRead, none-read, line-counted, text-written, feeds-written, length-records, read-size, read-line-refused, read-done, write-size, write-record-refused, write-unfit, write-done, read-sizes, write-sizes}
+use Rattle.text.proofs.Files.{none-read, line-counted, text-written, feeds-written, length-records, read-size, read-line-refused, read-done, write-size, write-record-refused, write-unfit, write-done, read-sizes, write-sizes}
 
 -- two answers with the same numbers are the same answer
 pub answers-same : (r s : Outcome) → numbers r ≡ numbers s → r ≡ s

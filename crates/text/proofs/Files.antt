@@ -3,24 +3,25 @@ use Prim.Native.Nat.{ℕ, zero, suc, _+_, _-_, _*_, _/_, _%_, _≤_, _<_}
 use native.Mathlib.Omega.{arith}
 use native.Mathlib.Nat.{zero-add}
 use mathlib.Core.Path.{_≡_, refl, sym, ap, ap₂, subst, _∙_}
-use mathlib.Core.Bool.{Bool, true, false, not}
-use mathlib.Core.List.{List, [], _∷_, _++_, append-assoc, append-nil, map}
-use lib.ListN.{length, getD, take, drop, length-append, length-take, length-drop, take-append-drop, List·getD-eq-default}
-use lib.Seq.{take-append-seam, take-at, drop-at, length-take-le, take-all, getD-take, getD-drop}
-use lib.Dec.{T, leb, ltb, eqb}
-use borrow.Author.Tests.{le-leb, lt-leb, leb-true, leb-false, ltb-true, ltb-false, eq-eqb, ne-eqb, eqb-true}
-use Rattle.trace.specs.Lists.{allOf, keep, each, over}
+use mathlib.Core.Bool.{Bool, true, false}
+use mathlib.Core.List.{List, [], _∷_, _++_, append-assoc, map}
+use lib.ListN.{length, take, drop, length-append, length-drop, take-append-drop}
+use lib.Seq.{take-append-seam, take-at, drop-at}
+use lib.Dec.{T, leb, eqb}
+use borrow.Author.Tests.{le-leb, lt-leb, leb-true, leb-false, eq-eqb, eqb-true}
+use Rattle.trace.specs.Lists.{keep, each, over}
 use Rattle.trace.proofs.Tests.{by}
 use Rattle.trace.proofs.Lists.{keep-true, keep-false}
 use Rattle.record.specs.declared.Event.{Event}
 use Rattle.record.specs.declared.Fault.{Fault as Refusal}
 use Rattle.record.specs.declared.Decoded.{Decoded}
 use Rattle.record.specs.declared.Decoded.the-variants.{Good, Refused}
-use Rattle.record.specs.Faults.{check, firstFault}
-use Rattle.record.specs.Record.{byte, sizeCheck, checks, event, encoded, decoded, inRange}
-use Rattle.record.proofs.Laws.{none-first, first-passed, decode-encoded, encode-decoded, decoded-range, length-encoded, decoded-passed, decoded-failed}
+use Rattle.record.specs.Faults.{firstFault}
+use Rattle.record.specs.Record.{sizeCheck, checks, event, encoded, decoded, inRange}
+use Rattle.record.proofs.Laws.{none-first, decode-encoded, encode-decoded, decoded-range, length-encoded, decoded-passed, decoded-failed}
 use Rattle.text.specs.Line.{lineFeed, spaced, wordsOf, lineOf, lineRead}
 use Rattle.text.specs.File.{Ending, done, refused, Fault, firstRefused, found, events, feeds, lines, readChecks, readText, records, recordsOf, writeChecks, writeText}
+use Rattle.text.specs.Demands.{Ended, result}
 use Rattle.text.proofs.Words.{lacks, lacks-first, lines-first, lines-together}
 use Rattle.text.proofs.Lines.{body-lacks, read-written, written-read, Fourteen, line-fourteen}
 
@@ -154,28 +155,16 @@ records-read [] h = tt
 records-read (e ∷ es) h = (decode-encoded e (h .0), records-read es (h .1))
 
 -- all records together are the file
-abbrev pub Bytes : List ℕ → Type 0
-Bytes bs = (i : ℕ) → byte bs i < 256
-
-small-take : (n : ℕ) (bs : List ℕ) → Bytes bs → Bytes (take n bs)
-small-take n bs small i = by (ltb i n)
-    (λ e. subst (λ b. b < 256) (sym (getD-take n bs i 0 (ltb-true i n e))) (small i))
-    (λ e. let l : length (take n bs) ≤ i = omega (arith, ltb-false i n e, length-take n bs) in
-    subst (λ b. b < 256) (sym (List·getD-eq-default (take n bs) 0 l)) (omega arith))
-
-small-drop : (n : ℕ) (bs : List ℕ) → Bytes bs → Bytes (drop n bs)
-small-drop n bs small i = subst (λ b. b < 256) (sym (getD-drop n bs i 0)) (small (n + i))
-
-pub file-written : (n : ℕ) (bs : List ℕ) (es : List Event) → Bytes bs → length bs ≡ 8 * n → AllRead decoded (records n bs) es → (each encoded es ≡ bs) × AllIn es
+pub file-written : (n : ℕ) (bs : List ℕ) (es : List Event) → length bs ≡ 8 * n → AllRead decoded (records n bs) es → (each encoded es ≡ bs) × AllIn es
 unfolding each records
-file-written zero [] [] small l h = (refl, tt)
-file-written zero (b ∷ bs) es small l h = absurd (omega arith)
-file-written zero [] (e ∷ es) small l h = absurd h
-file-written (suc n) bs [] small l h = absurd h
-file-written (suc n) bs (e ∷ es) small l h =
-    let r = encode-decoded (take 8 bs) e (small-take 8 bs small) (h .0) in
-    let s = file-written n (drop 8 bs) es (small-drop 8 bs small) (omega (arith, length-drop 8 bs)) (h .1) in
-    (ap₂ (λ x y. x ++ y) r (s .0) ∙ take-append-drop 8 bs, (decoded-range (take 8 bs) e (small-take 8 bs small) (h .0), s .1))
+file-written zero [] [] l h = (refl, tt)
+file-written zero (b ∷ bs) es l h = absurd (omega arith)
+file-written zero [] (e ∷ es) l h = absurd h
+file-written (suc n) bs [] l h = absurd h
+file-written (suc n) bs (e ∷ es) l h =
+    let r = encode-decoded (take 8 bs) e (h .0) in
+    let s = file-written n (drop 8 bs) es (omega (arith, length-drop 8 bs)) (h .1) in
+    (ap₂ (λ x y. x ++ y) r (s .0) ∙ take-append-drop 8 bs, (decoded-range (take 8 bs) e (h .0), s .1))
 
 -- ---- What reading a text gives, case by case
 
@@ -255,13 +244,6 @@ sizes-written input h =
 
 -- ---- Both ways
 
--- An ending that is no refusal: the bytes that were written
-abbrev pub Ended : Ending → Type 0
-Ended e = e .answer .kind ≡ 0
-
-abbrev pub result : Ending → List ℕ
-result e = take (e .answer .first) (e .out)
-
 result-done : (bytes out : List ℕ) → result (done bytes out) ≡ bytes
 unfolding done over
 result-done bytes out = take-append-seam bytes (drop (length bytes) out)
@@ -305,8 +287,8 @@ pub record FileWritten (input out : List ℕ) : Type 0 where
   pub few : length es ≤ 1024
   pub room : length (each lineOf es) ≤ length out
 
-pub file-read : (input out : List ℕ) → Bytes input → Ended (writeText input out) → FileWritten input out
-file-read input out small h = sizes (firstFault (writeChecks input)) refl
+pub file-read : (input out : List ℕ) → Ended (writeText input out) → FileWritten input out
+file-read input out h = sizes (firstFault (writeChecks input)) refl
   where
     fitting : firstFault (writeChecks input) ≡ 0 → firstRefused decoded 0 (recordsOf input) .number ≡ 0 → (b : Bool) → leb (length (textOf input)) (length out) ≡ b → FileWritten input out
     fitting z e false l = not-ended _ _ out (subst Ended (write-unfit input out z e (leb-false (length (textOf input)) (length out) l)) h)
@@ -315,7 +297,7 @@ file-read input out small h = sizes (firstFault (writeChecks input)) refl
         let es : List Event = events decoded (recordsOf input) in
         let s = sizes-written input z in
         let n : length input ≡ 8 * (length input / 8) = omega arith in
-        let w = file-written (length input / 8) input es small n (none-read decoded record-counted 0 (recordsOf input) e) in
+        let w = file-written (length input / 8) input es n (none-read decoded record-counted 0 (recordsOf input) e) in
         let m : length input ≡ 8 * length es = sym (ap length (w .0)) ∙ length-records es in
         record { es = es; ending = write-done input out z e room; whole = w .0; in-range = w .1; few = omega arith; room = room }
 
@@ -348,10 +330,10 @@ events-file es out r few room =
     ∙ ap (λ t. done t out) found-es
 
 -- Reading what was written from a file of records gives these records again
-pub write-then-read : (input out back : List ℕ) → Bytes input → Ended (writeText input out) → length input ≤ length back
+pub write-then-read : (input out back : List ℕ) → Ended (writeText input out) → length input ≤ length back
     → readText (result (writeText input out)) back ≡ done input back
-write-then-read input out back small h room =
-    let w : FileWritten input out = file-read input out small h in
+write-then-read input out back h room =
+    let w : FileWritten input out = file-read input out h in
     let same : result (writeText input out) ≡ each lineOf (w .es) = ap result (w .ending) ∙ result-done (each lineOf (w .es)) out in
     let n : length input ≡ 8 * length (w .es) = sym (ap length (w .whole)) ∙ length-records (w .es) in
     ap (λ t. readText t back) same ∙ events-text (w .es) back (w .in-range) (w .few) (omega arith) ∙ ap (λ b. done b back) (w .whole)

@@ -7,3 +7,4 @@ pub mod Readings
 pub mod Makings
 pub mod Wholes
 pub mod Endings
+pub mod Demands

@@ -7,7 +7,7 @@ use mathlib.Core.List.{List, [], _∷_, _++_, map}
 use lib.ListN.{length, getD, take, length-append}
 use lib.Seq.{take-at, getD-at, take-suc, take-length}
 use lib.Dec.{T, leb, eqb, le→leb, leb→le}
-use borrow.Author.Tests.{le-leb, lt-leb, leb-true, leb-false, eq-eqb, ne-eqb, eqb-true, eqb-false}
+use borrow.Author.Tests.{leb-true, leb-false, eq-eqb, ne-eqb, eqb-true, eqb-false}
 use Rattle.trace.proofs.Tests.{by, and-true, and-left, and-right, and-both}
 use Rattle.record.specs.declared.Event.{Event}
 use Rattle.record.specs.declared.Op.{Op}
@@ -17,6 +17,7 @@ use Rattle.record.specs.Record.{kind, target, value, targetLimit, operation, in
 use Rattle.record.proofs.Laws.{Shape, shape, Parts, parts}
 use Rattle.text.specs.Decimal.{decimal, valueFrom, valueOf, isNumber}
 use Rattle.text.specs.Line.{space, lineFeed, name, fieldCount, fields, wordsOf, spaced, lineOf, words, kindNamed, limits, fit, formless, readFields, readOperation, readWords, lastByte, butLast, lineRead}
+use Rattle.text.specs.Demands.{OneLine}
 use Rattle.text.proofs.Decimals.{value-decimal, number-decimal, number-within, decimal-value}
 use Rattle.text.proofs.Words.{lacks, AllLack, decimal-lacks, decimals-lack, spaced-lacks, name-lacks, kind-name, name-named, named-low, words-spaced, spaced-words}
 
@@ -313,12 +314,7 @@ written-read line e h = by (eqb (lastByte line) lineFeed)
     some [] f = absurd (omega arith)
     some (c ∷ l) f = omega arith
 
--- Every possible record has exactly one line: one that reads as it, and no other does
-pub record OneLine (e : Event) : Type 0 where
-  pub line : List ℕ
-  pub reads : lineRead line ≡ Good e
-  pub only : (l : List ℕ) → lineRead l ≡ Good e → l ≡ line
-
+-- every possible record has exactly one line
 pub one-line : (e : Event) → T (inRange e) → OneLine e
 one-line e r = record { line = lineOf e; reads = read-written e r; only = λ l h. sym (written-read l e h .0) }
 

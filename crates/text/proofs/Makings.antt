@@ -1,13 +1,12 @@
 -- Laws for the functions that make a line: bytes put after it, one after the other.
-use Prim.Native.Nat.{ℕ, zero, suc, _+_, _-_, _*_, _/_, _%_, _≤_, _<_}
+use Prim.Native.Nat.{ℕ, suc, _+_, _-_, _*_, _/_, _%_, _≤_, _<_}
 use native.Mathlib.Omega.{arith}
 use native.Mathlib.Numerals.{add-one}
-use mathlib.Core.Path.{_≡_, refl, sym, ap, ap₂, subst, _∙_}
-use mathlib.Core.Bool.{Bool, true, false, cond}
+use mathlib.Core.Path.{_≡_, refl, sym, ap, subst, _∙_}
 use mathlib.Core.List.{List, [], _∷_, _++_, append-assoc, append-nil, map}
-use lib.ListN.{length, getD, take, drop, length-append}
-use lib.Seq.{take-suc, take-length}
-use lib.Dec.{leb, ltb}
+use lib.ListN.{length, getD, take, length-append}
+use lib.Seq.{take-suc}
+use lib.Dec.{ltb}
 use borrow.Author.Tests.{le-leb, lt-leb, ltb-true, ltb-false}
 use Rattle.trace.proofs.Tests.{by}
 use Rattle.record.specs.declared.Event.{Event}

@@ -1,22 +1,20 @@
 -- Laws for the functions that read a line: its words by the first space, and what each kind asks.
-use Prim.Native.Nat.{ℕ, zero, suc, _+_, _-_, _*_, _≤_, _<_}
+use Prim.Native.Nat.{ℕ, suc, _+_, _-_, _≤_, _<_}
 use native.Mathlib.Omega.{arith}
-use native.Mathlib.Numerals.{add-one}
 use mathlib.Core.Path.{_≡_, refl, sym, ap, ap₂, subst, _∙_}
 use mathlib.Core.Logic.{_≢_}
-use mathlib.Core.Bool.{Bool, true, false, cond, not, _&&_}
-use mathlib.Core.List.{List, [], _∷_, _++_}
+use mathlib.Core.Bool.{Bool, true, false, _&&_}
+use mathlib.Core.List.{List, [], _∷_}
 use lib.ListN.{length, getD, take, drop, length-drop}
 use lib.Seq.{take-all}
-use lib.Dec.{T, leb, ltb, eqb}
+use lib.Dec.{leb, ltb, eqb}
 use borrow.Author.Tests.{le-leb, lt-leb, leb-true, leb-false, ltb-true, ltb-false}
 use Rattle.trace.proofs.Tests.{by}
-use Rattle.record.specs.declared.Decoded.{Decoded}
-use Rattle.record.specs.declared.Decoded.the-variants.{Good, Refused}
+use Rattle.record.specs.declared.Decoded.the-variants.{Good}
 use Rattle.record.specs.declared.Op.the-variants.{Yield}
 use Rattle.record.specs.Record.{targetLimit, operation}
-use Rattle.text.specs.Decimal.{isDigit, valueFrom, valueOf, isNumber}
-use Rattle.text.specs.Line.{space, lineFeed, words, glued, fieldCount, limits, fit, kindNamed, formless, readFields, readOperation, readWords}
+use Rattle.text.specs.Decimal.{valueFrom, valueOf, isNumber}
+use Rattle.text.specs.Line.{space, words, glued, fieldCount, limits, fit, kindNamed, formless, readFields, readOperation, readWords}
 use Rattle.text.specs.Steps.{before, numberIn}
 use Rattle.text.proofs.Decimals.{number-within, number-digits}
 use Rattle.text.proofs.Words.{words-cut, words-on, words-some, words-alone, digits-lack, named-low}

@@ -7,13 +7,13 @@ use mathlib.Core.Bool.{Bool, true, false, cond, not, _&&_}
 use mathlib.Core.List.{List, [], _∷_, _++_, map}
 use lib.ListN.{length, getD, take, drop, replicate, drop-of-length-le, List·getD-append, List·getD-map}
 use lib.Seq.{drop-cons, getD-take}
-use lib.Dec.{T, leb, ltb, eqb}
+use lib.Dec.{leb, eqb}
 use borrow.Author.Tests.{le-leb, lt-leb, eq-eqb, ne-eqb, eqb-true, leb-true}
 use Rattle.trace.specs.Lists.{allOf}
 use Rattle.trace.proofs.Tests.{by, and-true}
-use Rattle.trace.proofs.Lists.{all-none, all-cons}
+use Rattle.trace.proofs.Lists.{all-cons}
 use Rattle.text.specs.Decimal.{isDigit, valueFrom, valueOf, zeroLed, isNumber}
-use Rattle.text.specs.Line.{names, name, ascii, sameWord, placeFrom, kindNamed}
+use Rattle.text.specs.Line.{names, name, ascii, sameWord, placeFrom}
 use Rattle.text.specs.Steps.{before, runIn, numberIn}
 use Rattle.text.proofs.Decimals.{digit-is, is-digit}
 use Rattle.text.proofs.Words.{each-kind, place-here, place-later, same-is}

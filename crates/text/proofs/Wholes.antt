@@ -1,15 +1,15 @@
 -- Laws for the passes over whole files: the first part and then the others, and what is written after what is written.
-use Prim.Native.Nat.{ℕ, zero, suc, _+_, _-_, _*_, _/_, _%_, _≤_, _<_, min}
+use Prim.Native.Nat.{ℕ, suc, _+_, _-_, _/_, _≤_, _<_}
 use native.Mathlib.Omega.{arith}
 use native.Mathlib.Numerals.{add-one}
-use mathlib.Core.Path.{_≡_, refl, sym, ap, ap₂, subst, _∙_}
+use mathlib.Core.Path.{_≡_, refl, sym, ap, ap₂, _∙_}
 use mathlib.Core.Logic.{_≢_}
-use mathlib.Core.Bool.{Bool, true, false, cond}
+use mathlib.Core.Bool.{true, false, cond}
 use mathlib.Core.List.{List, [], _∷_, _++_, append-assoc, append-nil}
 use lib.ListN.{length, getD, set, take-append-drop, take, drop, length-append, length-take, length-drop, drop-of-length-le}
-use lib.Seq.{drop-cons, drop-drop, take-all, take-append-seam, take-append-add, drop-append-add, take-at, drop-at, length-take-le, take-suc, set-at}
-use lib.Dec.{leb, ltb, eqb}
-use borrow.Author.Tests.{le-leb, lt-leb, eq-eqb, ne-eqb, ltb-true, ltb-false}
+use lib.Seq.{drop-cons, drop-drop, take-all, take-at, drop-at, length-take-le, take-suc, set-at}
+use lib.Dec.{eqb}
+use borrow.Author.Tests.{le-leb, lt-leb, eq-eqb, ne-eqb}
 use borrow.Rule.Slice.PartMut.{putMid}
 use Rattle.trace.specs.Lists.{keep, each, over}
 use Rattle.trace.proofs.Tests.{by}
@@ -22,10 +22,9 @@ use Rattle.record.specs.Record.{encoded, encodedOver, encodedSize}
 use Rattle.record.proofs.Laws.{encoded-over, size-over, length-encoded}
 use Rattle.text.specs.declared.making.Line.{Line}
 use Rattle.text.specs.Line.{lineFeed, glued, lineOf, lineOver, lineRoom}
-use Rattle.text.specs.File.{Fault, firstRefused, found, events, feeds, lines, records, recordsOf}
+use Rattle.text.specs.File.{firstRefused, found, events, feeds, lines, records, recordsOf}
 use Rattle.text.specs.Steps.{before, lineSize, LineEnd, faultNumber, partBytes, allBytes, Holds}
 use Rattle.text.proofs.Words.{lines-cut, lines-on}
-use Rattle.text.proofs.Readings.{before-le}
 use Rattle.text.proofs.Files.{first-good, first-refused}
 
 -- ---- Line feeds

@@ -1,13 +1,13 @@
 -- Lines and texts on each side of the form, as one table, proved of the definitions by computing them.
-use Prim.Native.Nat.{ℕ, zero, suc}
+use Prim.Native.Nat.{ℕ}
 use Prim.Native.String.{String}
 use mathlib.Core.Path.{_≡_, refl}
 use mathlib.Core.List.{List, [], _∷_, _++_}
-use lib.ListN.{length, replicate}
+use lib.ListN.{replicate}
 use Rattle.text.specs.Line as Lines
 use Rattle.text.specs.File as Files
 use Rattle.text.specs.Line.{ascii}
-use Rattle.text.specs.File.{Ending, readText, writeText, done, refused}
+use Rattle.text.specs.File.{readText, writeText, done, refused}
 
 -- a record's bytes: kind, thread, target, value in two bytes. They are written out, and not by `encoded`
 abbrev bytes : ℕ → ℕ → ℕ → ℕ → ℕ → List ℕ

@@ -2,4 +2,5 @@ pub mod Decimal
 pub mod Line
 pub mod File
 pub mod Examples
+pub mod Demands
 pub mod Steps

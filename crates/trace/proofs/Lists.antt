@@ -384,6 +384,7 @@ module _ {A : Type 0} {P Q : A → Type 0} {R : A → A → Type 0} (both : (x y
   pub every-pair : (l k : List A) → Every P l → Every Q k → Every (λ x. Every (R x) k) l
   every-pair [] k p q = tt
   every-pair (x ∷ l) k p q = (every-second x (p .0) k q, every-pair l k (p .1) q)
+
 pub all-none : {A : Type 0} (p : A → Bool) → allOf p [] ≡ true
 unfolding allOf
 all-none p = refl

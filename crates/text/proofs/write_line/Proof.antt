@@ -1,19 +1,14 @@
 -- `text::write_line` meets its contract: the bytes of the line, one after the other, where they fit.
-use Prim.Native.Nat.{ℕ, _+_, _-_, _≤_, _<_}
+use Prim.Native.Nat.{ℕ, _+_, _-_, _≤_}
 use native.Mathlib.Omega.{arith}
-use native.Mathlib.Numerals.{add-one}
 use mathlib.Core.Path.{_≡_, refl, sym, ap, ap₂, _∙_}
 use mathlib.Core.List.{List, _++_}
 use lib.ListN.{length, getD, take, drop, set, length-set}
 use borrow.Author.Needs.{needs}
 use Rattle.trace.specs.Lists.{over}
-use Rattle.text.specs.Line.{lineOf}
 use Rattle.text.proofs.Wholes.{line-fits, line-unfit, copy-on, holds-room}
 use Rattle.text.proofs.write_line.Statement.{statement}
 use Rattle.text.proofs.write_line.Tie as tie
-use Rattle.text.proofs.write_line.Reads as reads
-use Rattle.text.proofs.write_line.Lts as lts
-use Rattle.text.proofs.making.line_of.Reads as line-of-reads
 
 abbrev Inv-loop : tie.InvT-loop
 Inv-loop out₀ line size i₀ out i = (i ≤ size) × (length out ≡ length out₀) × (out ≡ take i (line .bytes) ++ drop i out₀)

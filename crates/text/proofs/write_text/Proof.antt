@@ -1,5 +1,5 @@
 -- `text::write_text` meets its contract: 1, 2, 5 to 7, 3, or the lines.
-use Prim.Native.Nat.{ℕ, _%_, _≤_, _<_}
+use Prim.Native.Nat.{ℕ, _%_, _≤_}
 use native.Mathlib.Omega.{arith}
 use mathlib.Core.Path.{_≡_}
 use mathlib.Core.List.{List}

@@ -1,10 +1,7 @@
 -- The proof of the cycle of calls {with_decimal}: the tens first, then the last digit. The measure is the number.
-use Prim.Native.Nat.{_+_, _-_, _/_, _%_, _≤_}
+use Prim.Native.Nat.{_+_, _-_}
 use native.Mathlib.Omega.{arith}
-use mathlib.Core.Path.{_≡_, refl, sym, ap, _∙_}
-use mathlib.Core.List.{List, [], _∷_}
-use lib.ListN.{length}
-use Rattle.text.specs.Decimal.{digit, decimal}
+use mathlib.Core.Path.{sym}
 use Rattle.text.proofs.Decimals.{decimal-small, decimal-more, decimal-some}
 use Rattle.text.proofs.Makings.{decimal-size, longer-both, longer-as}
 use Prim.Native.Nat.{ℕ, _<_}

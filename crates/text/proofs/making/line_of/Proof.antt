@@ -1,10 +1,8 @@
 -- `text::line_of` meets its contract: thread, space, name, what the kind has, line feed.
-use Prim.Native.Nat.{ℕ, _<_, _≤_}
+use Prim.Native.Nat.{_<_, _≤_}
 use native.Mathlib.Omega.{arith}
-use mathlib.Core.Path.{_≡_, refl}
-use mathlib.Core.List.{List, [], _∷_, _++_}
+use mathlib.Core.Path.{refl}
 use lib.ListN.{length}
-use Rattle.record.specs.Record.{kind}
 use Rattle.record.proofs.Laws.{shape}
 use Rattle.text.specs.Line.{name}
 use Rattle.text.proofs.Scans.{name-short}

@@ -1,11 +1,9 @@
 -- `text::with_fields` meets its contract: by the kind, nothing, a target, or a target and a value.
-use Prim.Native.Nat.{ℕ, _<_, _≤_}
+use Prim.Native.Nat.{_<_, _≤_}
 use native.Mathlib.Omega.{arith}
-use mathlib.Core.Path.{_≡_, sym, ap, ap₂, _∙_}
-use mathlib.Core.List.{List, [], _∷_, _++_}
-use lib.ListN.{length}
-use Rattle.record.specs.Record.{kind, target, value}
-use Rattle.text.specs.Decimal.{decimal}
+use mathlib.Core.Path.{sym, ap, ap₂, _∙_}
+use mathlib.Core.List.{[], _∷_, _++_}
+use Rattle.record.specs.Record.{kind}
 use Rattle.text.specs.Steps.{spacedOut}
 use Rattle.text.proofs.Makings.{longer-none, longer-both, longer-as, size-three, size-five, field-size, fields-none, fields-one, fields-two}
 use borrow.Author.Needs.{needs}

@@ -1,9 +1,9 @@
 -- `text::with_name` meets its contract: the first j letters stand after the line.
-use Prim.Native.Nat.{ℕ, _-_, _≤_, _<_}
+use Prim.Native.Nat.{_-_, _≤_, _<_}
 use native.Mathlib.Omega.{arith}
-use mathlib.Core.Path.{_≡_, sym, ap, _∙_}
-use mathlib.Core.List.{List, [], _∷_}
-use lib.ListN.{length, take, getD}
+use mathlib.Core.Path.{sym, ap}
+use mathlib.Core.List.{[], _∷_}
+use lib.ListN.{length, take}
 use lib.Seq.{length-take-le, take-all}
 use Rattle.text.specs.Line.{name}
 use Rattle.text.specs.Steps.{Longer}

@@ -1,9 +1,8 @@
 -- `text::access` meets its contract: two words, by the first space.
-use Prim.Native.Nat.{ℕ, _+_, _-_, _≤_, _<_}
+use Prim.Native.Nat.{_+_, _-_, _≤_, _<_}
 use native.Mathlib.Omega.{arith}
 use mathlib.Core.Path.{_≡_, sym, ap, _∙_}
-use mathlib.Core.List.{List}
-use lib.ListN.{length, take, drop}
+use lib.ListN.{length, drop}
 use lib.Seq.{length-take-le}
 use Rattle.record.specs.declared.Decoded.the-variants.{Good}
 use Rattle.text.specs.Steps.{before, numberIn}

@@ -1,9 +1,8 @@
 -- `text::body` meets its contract: the thread is the first word.
-use Prim.Native.Nat.{ℕ, _+_, _-_, _≤_, _<_}
+use Prim.Native.Nat.{_+_, _-_, _≤_}
 use native.Mathlib.Omega.{arith}
-use mathlib.Core.Path.{_≡_, sym, ap, _∙_}
-use mathlib.Core.List.{List}
-use lib.ListN.{length, take, drop}
+use mathlib.Core.Path.{sym, ap, _∙_}
+use lib.ListN.{length}
 use lib.Seq.{length-take-le}
 use Rattle.text.specs.Line.{words, readOperation}
 use Rattle.text.proofs.Readings.{rest-is, thread-bad, thread-alone, thread-good}

@@ -1,10 +1,7 @@
 -- `text::single` meets its contract: one word.
-use Prim.Native.Nat.{ℕ, _+_, _-_, _≤_, _<_}
+use Prim.Native.Nat.{_-_}
 use native.Mathlib.Omega.{arith}
-use mathlib.Core.Path.{_≡_, sym, ap, _∙_}
-use mathlib.Core.List.{List}
-use lib.ListN.{length, take, drop}
-use lib.Seq.{length-take-le}
+use mathlib.Core.Path.{sym, ap, _∙_}
 use Rattle.record.specs.declared.Decoded.the-variants.{Good}
 use Rattle.text.proofs.Readings.{single-bad, single-good}
 use borrow.Author.Needs.{needs}

@@ -1,8 +1,7 @@
 -- `text::find` meets its contract: no byte before i is c.
-use Prim.Native.Nat.{ℕ, _+_, _-_, _≤_}
+use Prim.Native.Nat.{_+_, _-_, _≤_}
 use native.Mathlib.Omega.{arith}
-use mathlib.Core.Path.{_≡_, sym, _∙_}
-use mathlib.Core.List.{List}
+use mathlib.Core.Path.{_≡_}
 use lib.ListN.{length, drop}
 use Rattle.text.specs.Steps.{before}
 use Rattle.text.proofs.Scans.{before-here, before-on, before-end}

@@ -1,8 +1,7 @@
 -- `text::is_name` meets its contract: of one size, and the same at every place before j.
-use Prim.Native.Nat.{ℕ, _-_, _≤_}
+use Prim.Native.Nat.{_-_, _≤_}
 use native.Mathlib.Omega.{arith}
 use mathlib.Core.Path.{_≡_, refl, sym, _∙_}
-use mathlib.Core.List.{List}
 use lib.ListN.{length, drop}
 use Rattle.text.specs.Line.{name, sameWord}
 use Rattle.text.proofs.Scans.{same-on, same-not, same-end, same-sized}

@@ -1,6 +1,6 @@
 -- `text::letter` meets its contract: the table is the names, each in eight places.
 use native.Mathlib.Omega.{arith}
-use Rattle.text.specs.Line.{name, names, ascii}
+use Rattle.text.specs.Line.{names, ascii}
 use Rattle.text.proofs.Scans.{name-short, letters-right}
 use borrow.Author.Needs.{needs}
 use Rattle.text.proofs.scan.letter.Statement.{statement}

@@ -1,5 +1,5 @@
 -- `text::letters` meets its contract: the table is the sizes of the names.
-use Rattle.text.specs.Line.{name, names, ascii}
+use Rattle.text.specs.Line.{names, ascii}
 use Rattle.text.proofs.Scans.{sizes-right}
 use borrow.Author.Needs.{needs}
 use Rattle.text.proofs.scan.letters.Statement.{statement}

@@ -9,8 +9,6 @@ use Rattle.text.specs.File.{feeds}
 use Rattle.text.proofs.Wholes.{feeds-here, feeds-other, feeds-end}
 use Rattle.text.proofs.whole.feeds.Statement.{statement}
 use Rattle.text.proofs.whole.feeds.Tie as tie
-use Rattle.text.proofs.whole.feeds.Reads as reads
-use Rattle.text.proofs.whole.feeds.Lts as lts
 
 abbrev Inv-loop : tie.InvT-loop
 Inv-loop text n₀ i₀ n i = (i ≤ length text) × (n ≤ i) × (feeds text ≡ n + feeds (drop i text))

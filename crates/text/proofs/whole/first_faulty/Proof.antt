@@ -1,23 +1,17 @@
 -- `text::first_faulty` meets its contract: the records before `at` all decode, and the others are counted from `place` on.
-use Prim.Native.Nat.{ℕ, _+_, _-_, _*_, _%_, _≤_, _<_}
+use Prim.Native.Nat.{ℕ, _+_, _-_, _%_, _≤_}
 use native.Mathlib.Omega.{arith}
-use mathlib.Core.Path.{_≡_, refl, sym, ap, subst, _∙_}
+use mathlib.Core.Path.{_≡_, refl, sym, ap, _∙_}
 use mathlib.Core.List.{List}
-use lib.ListN.{length, take, drop, length-drop, length-append}
+use lib.ListN.{length, take, drop}
 use borrow.Author.Needs.{needs}
 use Rattle.record.specs.Record.{decoded}
-use Rattle.text.specs.Line.{lineOf}
 use Rattle.text.specs.File.{firstRefused, recordsOf}
-use Rattle.text.specs.Steps.{faultNumber, partBytes, allBytes}
+use Rattle.text.specs.Steps.{faultNumber}
 use Rattle.text.proofs.Files.{record-counted}
-use Rattle.text.proofs.Readings.{rest-is}
 use Rattle.text.proofs.Wholes.{records-at, records-end, refusal-on, refusal-here, refusal-end}
 use Rattle.text.proofs.whole.first_faulty.Statement.{statement}
 use Rattle.text.proofs.whole.first_faulty.Tie as tie
-use Rattle.text.proofs.whole.first_faulty.Reads as reads
-use Rattle.text.proofs.whole.first_faulty.Lts as lts
-use Rattle.record.proofs.decode.Reads as decode-reads
-use Rattle.text.proofs.whole.fault_number.Reads as fault-number-reads
 
 abbrev Inv-loop : tie.InvT-loop
 Inv-loop input at₀ place₀ at place =

@@ -1,5 +1,5 @@
 -- `text::first_formless` meets its contract: the lines before `at` all read, and the others are counted from `line` on.
-use Prim.Native.Nat.{ℕ, _+_, _-_, _≤_, _<_}
+use Prim.Native.Nat.{ℕ, _-_, _≤_}
 use native.Mathlib.Omega.{arith}
 use mathlib.Core.Path.{_≡_, refl, sym, ap, _∙_}
 use mathlib.Core.List.{List}
@@ -12,11 +12,6 @@ use Rattle.text.proofs.Files.{line-counted}
 use Rattle.text.proofs.Wholes.{lines-at, lines-end, refusal-on, refusal-here, refusal-end}
 use Rattle.text.proofs.whole.first_formless.Statement.{statement}
 use Rattle.text.proofs.whole.first_formless.Tie as tie
-use Rattle.text.proofs.whole.first_formless.Reads as reads
-use Rattle.text.proofs.whole.first_formless.Lts as lts
-use Rattle.text.proofs.read_line.Reads as read-line-reads
-use Rattle.text.proofs.whole.fault_number.Reads as fault-number-reads
-use Rattle.text.proofs.whole.line_end.Reads as line-end-reads
 
 abbrev Inv-loop : tie.InvT-loop
 Inv-loop text at₀ line₀ at line = (at ≤ length text) × (line ≤ at) × (firstRefused lineRead 0 (lines text) ≡ firstRefused lineRead line (lines (drop at text)))

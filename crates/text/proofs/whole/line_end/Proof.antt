@@ -8,9 +8,6 @@ use Rattle.text.proofs.Wholes.{end-feed, end-text}
 use borrow.Author.Needs.{needs}
 use Rattle.text.proofs.whole.line_end.Statement.{statement}
 use Rattle.text.proofs.whole.line_end.Tie as tie
-use Rattle.text.proofs.whole.line_end.Reads as reads
-use Rattle.text.proofs.whole.line_end.Lts as lts
-use Rattle.text.proofs.scan.find.Reads as find-reads
 
 sub-find : tie.Need-sub-find
 sub-find c = search needs

@@ -8,10 +8,6 @@ use Rattle.text.proofs.Wholes.{part-good, part-none}
 use borrow.Author.Needs.{needs}
 use Rattle.text.proofs.whole.line_size.Statement.{statement}
 use Rattle.text.proofs.whole.line_size.Tie as tie
-use Rattle.text.proofs.whole.line_size.Reads as reads
-use Rattle.text.proofs.whole.line_size.Lts as lts
-use Rattle.record.proofs.decode.Reads as decode-reads
-use Rattle.text.proofs.making.line_of.Reads as line-of-reads
 
 decode-requires : tie.Need-decode-requires
 decode-requires c κs = search needs

@@ -1,8 +1,6 @@
 -- `text::put_line` meets its contract: the line of a record, and nothing where there is none.
-use Prim.Native.Nat.{ℕ, _≤_}
 use native.Mathlib.Omega.{arith}
-use mathlib.Core.Path.{_≡_, sym, ap, _∙_}
-use mathlib.Core.List.{List}
+use mathlib.Core.Path.{sym, ap, _∙_}
 use lib.ListN.{length}
 use Rattle.record.specs.Record.{decoded}
 use Rattle.text.specs.Line.{lineOf}
@@ -10,10 +8,6 @@ use Rattle.text.proofs.Wholes.{part-good, part-fits, part-empty, line-f
 use borrow.Author.Needs.{needs}
 use Rattle.text.proofs.whole.put_line.Statement.{statement}
 use Rattle.text.proofs.whole.put_line.Tie as tie
-use Rattle.text.proofs.whole.put_line.Reads as reads
-use Rattle.text.proofs.whole.put_line.Lts as lts
-use Rattle.record.proofs.decode.Reads as decode-reads
-use Rattle.text.proofs.write_line.Reads as write-line-reads
 
 decode-requires : tie.Need-decode-requires
 decode-requires c κs = search needs

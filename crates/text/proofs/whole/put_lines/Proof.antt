@@ -1,23 +1,19 @@
 -- `text::put_lines` meets its contract: the lines of the records before `at` are written.
-use Prim.Native.Nat.{ℕ, _+_, _-_, _*_, _%_, _≤_, _<_}
+use Prim.Native.Nat.{ℕ, _+_, _-_, _%_, _≤_}
 use native.Mathlib.Omega.{arith}
-use mathlib.Core.Path.{_≡_, refl, sym, ap, subst, _∙_}
+use mathlib.Core.Path.{_≡_, sym, ap, subst}
 use mathlib.Core.List.{List}
 use lib.ListN.{length, take, drop, length-drop, length-append}
 use borrow.Author.Needs.{needs}
 use Rattle.record.specs.Record.{decoded}
 use Rattle.text.specs.Line.{lineOf}
-use Rattle.text.specs.File.{firstRefused, recordsOf}
-use Rattle.text.specs.Steps.{faultNumber, partBytes, allBytes}
-use Rattle.text.proofs.Files.{record-counted}
+use Rattle.text.specs.File.{recordsOf}
+use Rattle.text.specs.Steps.{partBytes, allBytes}
 use Rattle.text.proofs.Readings.{rest-is}
 use borrow.Rule.Slice.PartMut.{putMid}
 use Rattle.text.proofs.Wholes.{records-at, records-end, bytes-on, bytes-end, Put, put-none, put-all, put-on, put-over}
 use Rattle.text.proofs.whole.put_lines.Statement.{statement}
 use Rattle.text.proofs.whole.put_lines.Tie as tie
-use Rattle.text.proofs.whole.put_lines.Reads as reads
-use Rattle.text.proofs.whole.put_lines.Lts as lts
-use Rattle.text.proofs.whole.put_line.Reads as put-line-reads
 
 abbrev Inv-loop : tie.InvT-loop
 Inv-loop input out₀ at₀ n₀ out at n =

@@ -1,8 +1,5 @@
 -- `text::put_record` meets its contract: the record of a line that reads, and nothing for another.
-use Prim.Native.Nat.{ℕ, _≤_}
-use native.Mathlib.Omega.{arith}
-use mathlib.Core.Path.{_≡_, sym, _∙_}
-use mathlib.Core.List.{List}
+use mathlib.Core.Path.{sym, _∙_}
 use lib.ListN.{length}
 use Rattle.record.specs.Record.{encoded}
 use Rattle.text.specs.Line.{lineRead}
@@ -10,10 +7,6 @@ use Rattle.text.proofs.Wholes.{part-fits, part-empty, record-fits, reco
 use borrow.Author.Needs.{needs}
 use Rattle.text.proofs.whole.put_record.Statement.{statement}
 use Rattle.text.proofs.whole.put_record.Tie as tie
-use Rattle.text.proofs.whole.put_record.Reads as reads
-use Rattle.text.proofs.whole.put_record.Lts as lts
-use Rattle.record.proofs.encode.Reads as encode-reads
-use Rattle.text.proofs.read_line.Reads as read-line-reads
 
 read-line-requires : tie.Need-read-line-requires
 read-line-requires c κs = search needs

@@ -1,7 +1,7 @@
 -- `text::put_records` meets its contract: the records of the lines before `at` are written.
-use Prim.Native.Nat.{ℕ, _+_, _-_, _≤_, _<_}
+use Prim.Native.Nat.{ℕ, _+_, _-_, _≤_}
 use native.Mathlib.Omega.{arith}
-use mathlib.Core.Path.{_≡_, sym, ap, subst}
+use mathlib.Core.Path.{sym, ap, subst}
 use mathlib.Core.List.{List}
 use lib.ListN.{length, take, drop, length-drop, length-append}
 use borrow.Author.Needs.{needs}
@@ -14,10 +14,6 @@ use Rattle.text.proofs.Readings.{rest-is}
 use Rattle.text.proofs.Wholes.{lines-at, lines-end, bytes-on, bytes-end, Put, put-none, put-all, put-on, put-over}
 use Rattle.text.proofs.whole.put_records.Statement.{statement}
 use Rattle.text.proofs.whole.put_records.Tie as tie
-use Rattle.text.proofs.whole.put_records.Reads as reads
-use Rattle.text.proofs.whole.put_records.Lts as lts
-use Rattle.text.proofs.whole.line_end.Reads as line-end-reads
-use Rattle.text.proofs.whole.put_record.Reads as put-record-reads
 
 abbrev Inv-loop : tie.InvT-loop
 Inv-loop text out₀ at₀ n₀ out at n =

@@ -1,22 +1,17 @@
 -- `text::text_size` meets its contract: the lines of the records before `at` have `size` bytes.
-use Prim.Native.Nat.{ℕ, _+_, _-_, _*_, _%_, _≤_, _<_}
+use Prim.Native.Nat.{ℕ, _+_, _-_, _*_, _%_, _≤_}
 use native.Mathlib.Omega.{arith}
-use mathlib.Core.Path.{_≡_, refl, sym, ap, subst, _∙_}
+use mathlib.Core.Path.{_≡_, ap}
 use mathlib.Core.List.{List}
-use lib.ListN.{length, take, drop, length-drop, length-append}
+use lib.ListN.{length, take, drop, length-append}
 use borrow.Author.Needs.{needs}
 use Rattle.record.specs.Record.{decoded}
 use Rattle.text.specs.Line.{lineOf}
-use Rattle.text.specs.File.{firstRefused, recordsOf}
-use Rattle.text.specs.Steps.{faultNumber, partBytes, allBytes}
-use Rattle.text.proofs.Files.{record-counted}
-use Rattle.text.proofs.Readings.{rest-is}
+use Rattle.text.specs.File.{recordsOf}
+use Rattle.text.specs.Steps.{partBytes, allBytes}
 use Rattle.text.proofs.Wholes.{records-at, records-end, bytes-on, bytes-end}
 use Rattle.text.proofs.whole.text_size.Statement.{statement}
 use Rattle.text.proofs.whole.text_size.Tie as tie
-use Rattle.text.proofs.whole.text_size.Reads as reads
-use Rattle.text.proofs.whole.text_size.Lts as lts
-use Rattle.text.proofs.whole.line_size.Reads as line-size-reads
 
 abbrev Inv-loop : tie.InvT-loop
 Inv-loop input at₀ size₀ at size =
