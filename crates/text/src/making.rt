@@ -10,7 +10,7 @@ ghost use Rattle.text.specs.Decimal.{decimal};
 ghost use Rattle.text.specs.Line.{name, fields, lineOf};
 ghost use Rattle.text.specs.Steps.{Longer, Holds, spacedOut};
 
-// A line as far as it is made: the first `len` of its bytes. No line is longer than 23.
+// A line as far as it is made: the first `len` of its bytes. No event has a line of more than 23.
 pub struct Line {
     pub bytes: [u8; 24],
     pub len: usize,
