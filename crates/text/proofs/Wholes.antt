@@ -13,7 +13,7 @@ use borrow.Author.Tests.{le-leb, lt-leb, eq-eqb, ne-eqb}
 use borrow.Rule.Slice.PartMut.{putMid}
 use Rattle.trace.specs.Lists.{keep, each, over}
 use Rattle.trace.proofs.Tests.{by}
-use Rattle.trace.proofs.Lists.{keep-true, keep-false}
+use Rattle.trace.proofs.Lists.{keep-true, keep-false, each-append}
 use Rattle.record.specs.declared.Event.{Event}
 use Rattle.record.specs.declared.Fault.{Fault as Refusal}
 use Rattle.record.specs.declared.Decoded.{Decoded}
@@ -127,15 +127,10 @@ refusal-end read k qs e = ap (firstRefused read k) e
 
 -- ---- What is written for each part
 
-each-both : (put : Event → List ℕ) (a b : List Event) → each put (a ++ b) ≡ each put a ++ each put b
-unfolding each
-each-both put [] b = refl
-each-both put (x ∷ a) b = ap (λ r. put x ++ r) (each-both put a b) ∙ sym (append-assoc (put x) (each put a) (each put b))
-
 pub bytes-on : (put : Event → List ℕ) (read : List ℕ → Decoded) (p : List ℕ) (ps qs : List (List ℕ)) → qs ≡ p ∷ ps
     → allBytes put read qs ≡ partBytes put (read p) ++ allBytes put read ps
 unfolding allBytes partBytes events each
-bytes-on put read p ps qs e = ap (allBytes put read) e ∙ each-both put (found (read p)) (events read ps)
+bytes-on put read p ps qs e = ap (allBytes put read) e ∙ each-append put (found (read p)) (events read ps)
 
 pub bytes-end : (put : Event → List ℕ) (read : List ℕ → Decoded) (qs : List (List ℕ)) → qs ≡ [] → allBytes put read qs ≡ []
 unfolding allBytes events each
