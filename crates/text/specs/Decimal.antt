@@ -15,7 +15,7 @@ unfoldable pub digits : ℕ → ℕ → List ℕ
 digits zero n = digit (n % 10) ∷ []
 digits (suc k) n = elim (ltb n 10) [ true ↦ digit n ∷ [] | false ↦ digits k (n / 10) ++ (digit (n % 10) ∷ []) ]
 
--- A number as it is written. It has fewer digits than n + 1, save 0, which has one
+-- A number as it is written: n + 1 digits are always enough
 unfoldable pub decimal : ℕ → List ℕ
 decimal n = digits n n
 
