@@ -191,12 +191,12 @@ faultless bs h =
 -- ---- The round trip
 
 -- an operation made of a kind, a target and a value in range has these
-record Parts (k x v : ℕ) : Type 0 where
-  kind-is : kind (operation k x v) ≡ k
-  target-is : target (operation k x v) ≡ x
-  value-is : value (operation k x v) ≡ v
+pub record Parts (k x v : ℕ) : Type 0 where
+  pub kind-is : kind (operation k x v) ≡ k
+  pub target-is : target (operation k x v) ≡ x
+  pub value-is : value (operation k x v) ≡ v
 
-parts : (k x v : ℕ) → 1 ≤ k → k ≤ 10 → x ≤ targetLimit k → (2 < k → v ≡ 0) → Parts k x v
+pub parts : (k x v : ℕ) → 1 ≤ k → k ≤ 10 → x ≤ targetLimit k → (2 < k → v ≡ 0) → Parts k x v
 unfolding operation targetLimit
 parts zero x v p q r z = absurd (omega arith)
 parts (suc zero) x v p q r z = record { kind-is = refl; target-is = refl; value-is = refl }
@@ -253,9 +253,9 @@ decoded-range bs e h =
     (both (leb (target o) (targetLimit (kind o))) (leb (value o) 65535) (le→leb (target o) (targetLimit (kind o)) t) (le→leb (value o) 65535 v)))
 
 -- what is read is what would be written
-pub encode-decoded : (bs : List ℕ) (e : Event) → ((i : ℕ) → byte bs i < 256) → decoded bs ≡ Good e → encoded e ≡ bs
+pub encode-decoded : (bs : List ℕ) (e : Event) → decoded bs ≡ Good e → encoded e ≡ bs
 unfolding encoded event
-encode-decoded bs e small h =
+encode-decoded bs e h =
     let g : IsEvent bs e = good-decoded bs e h in
     let f : Faultless bs = faultless bs (g .faultless) in
     let q : Parts (byte bs 2) (byte bs 4) (twoBytes bs 6) = event-parts bs f in
@@ -268,8 +268,8 @@ encode-decoded bs e small h =
     at f q (suc (suc (suc zero))) l = refl
     at f q (suc (suc (suc (suc zero)))) l = q .target-is
     at f q (suc (suc (suc (suc (suc zero))))) l = sym (f .spare)
-    at f q (suc (suc (suc (suc (suc (suc zero)))))) l = omega (arith, q .value-is, small 6)
-    at f q (suc (suc (suc (suc (suc (suc (suc zero))))))) l = omega (arith, q .value-is, small 6)
+    at f q (suc (suc (suc (suc (suc (suc zero)))))) l = omega (arith, q .value-is, f .low, value-limit (byte bs 2))
+    at f q (suc (suc (suc (suc (suc (suc (suc zero))))))) l = omega (arith, q .value-is, f .low, value-limit (byte bs 2))
     at f q (suc (suc (suc (suc (suc (suc (suc (suc i)))))))) l = absurd (omega arith)
 
 -- what every operation has

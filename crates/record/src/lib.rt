@@ -91,7 +91,7 @@ pub fn value_of(op: Op) -> u16
 }
 
 // The largest target of a kind.
-fn target_limit(kind: u8) -> u8
+pub fn target_limit(kind: u8) -> u8
     ensures { λ r. ⌜ r ≡ targetLimit kind ⌝ }
 {
     match kind {
@@ -151,7 +151,7 @@ fn fault_of(src: &[u8]) -> u8
 }
 
 // The operation of a kind, at a target and a value.
-fn operation_of(kind: u8, target: u8, value: u16) -> Op
+pub fn operation_of(kind: u8, target: u8, value: u16) -> Op
     ensures { λ r. ⌜ r ≡ operation kind target value ⌝ }
 {
     match kind {

@@ -6,11 +6,11 @@ use native.Mathlib.Nat.{add-zero, zero-add, add-suc, suc-add, le-of-suc-le-suc, 
 use mathlib.Core.Path.{_≡_, refl, sym, ap, ap₂, _∙_, subst}
 use mathlib.Core.Logic.{_≢_}
 use mathlib.Core.Bool.{Bool, true, false, _&&_, _||_}
-use mathlib.Core.List.{List, [], _∷_, _++_, map}
+use mathlib.Core.List.{List, [], _∷_, _++_, map, append-assoc}
 use lib.ListN.{length, getD, take, drop}
 use lib.Seq.{sets, sets-eq}
 use lib.Dec.{T, eqb, eqb→eq, eqb-refl}
-use Rattle.trace.specs.Lists.{someOf, allOf, keep, firstOf, over, member, from, below}
+use Rattle.trace.specs.Lists.{someOf, allOf, keep, firstOf, over, member, from, below, each}
 use Rattle.trace.proofs.Tests.{by, by-same, T-of, T-is, or-cases, or-left, or-right}
 
 -- b is one of a list; an a stands before a b
@@ -439,3 +439,20 @@ module _ {A : Type 0} {P Q : A → Type 0} {R : A → A → Type 0} (both : (x y
   pub every-pair : (l k : List A) → Every P l → Every Q k → Every (λ x. Every (R x) k) l
   every-pair [] k p q = tt
   every-pair (x ∷ l) k p q = (every-second x (p .0) k q, every-pair l k (p .1) q)
+
+pub all-none : {A : Type 0} (p : A → Bool) → allOf p [] ≡ true
+unfolding allOf
+all-none p = refl
+
+pub all-cons : {A : Type 0} (p : A → Bool) (x : A) (l : List A) → allOf p (x ∷ l) ≡ (p x && allOf p l)
+unfolding allOf
+all-cons p x l = go (p x)
+  where
+    go : (b : Bool) → (elim b as (λ c. Bool) [ true ↦ allOf p l | false ↦ false ]) ≡ (b && allOf p l)
+    go true = refl
+    go false = refl
+
+pub each-append : {A B : Type 0} (f : A → List B) (l m : List A) → each f (l ++ m) ≡ each f l ++ each f m
+unfolding each
+each-append f [] m = refl
+each-append f (x ∷ l) m = ap (λ r. f x ++ r) (each-append f l m) ∙ sym (append-assoc (f x) (each f l) (each f m))

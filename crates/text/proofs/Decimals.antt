@@ -1,0 +1,201 @@
+-- Laws of decimal numbers: what is written is read back, and what reads is what would be written.
+use Prim.Native.Nat.{ℕ, zero, suc, _+_, _-_, _*_, _/_, _%_, _≤_, _<_}
+use native.Mathlib.Omega.{arith}
+use mathlib.Core.Path.{_≡_, refl, sym, ap, ap₂, subst, _∙_}
+use mathlib.Core.Bool.{true, false, not, _&&_}
+use mathlib.Core.List.{List, [], _∷_, _++_, append-assoc, append-nil}
+use lib.ListN.{length, getD, length-append}
+use lib.Dec.{T, leb, ltb, eqb}
+use borrow.Author.Tests.{lt-ltb, le-ltb, le-leb, ltb-true, ltb-false, leb-true, leb-false, eqb-true, eq-eqb, not-true}
+use Rattle.trace.specs.Lists.{allOf}
+use Rattle.trace.proofs.Tests.{by, and-true}
+use Rattle.trace.proofs.Lists.{all-none, all-cons}
+use Rattle.text.specs.Decimal.{digit, digits, decimal, isDigit, valueFrom, valueOf, zeroLed, isNumber}
+
+-- ---- How a number is written
+
+digits-small : (k n : ℕ) → n < 10 → digits k n ≡ digit n ∷ []
+unfolding digits
+digits-small zero n h = let e : n % 10 ≡ n = omega arith in ap (λ d. digit d ∷ []) e
+digits-small (suc k) n h = rw (lt-ltb n 10 h, digits)
+
+digits-more : (k n : ℕ) → 10 ≤ n → digits (suc k) n ≡ digits k (n / 10) ++ (digit (n % 10) ∷ [])
+unfolding digits
+digits-more k n h = rw (le-ltb n 10 h, digits)
+
+-- more room makes no difference
+digits-room : (k m n : ℕ) → n ≤ k → n ≤ m → digits k n ≡ digits m n
+digits-room zero m n p q = digits-small zero n (omega arith) ∙ sym (digits-small m n (omega arith))
+digits-room (suc k) zero n p q = digits-small (suc k) n (omega arith) ∙ sym (digits-small zero n (omega arith))
+digits-room (suc k) (suc m) n p q = by (ltb n 10)
+    (λ e. let h : n < 10 = ltb-true n 10 e in digits-small (suc k) n h ∙ sym (digits-small (suc m) n h))
+    (λ e. let h : 10 ≤ n = ltb-false n 10 e in
+    digits-more k n h ∙ ap (λ w. w ++ (digit (n % 10) ∷ [])) (digits-room k m (n / 10) (omega arith) (omega arith)) ∙ sym (digits-more m n h))
+
+-- a number below 10 is its digit, and any other the digits of its tenth and then its last digit
+pub decimal-small : (n : ℕ) → n < 10 → decimal n ≡ digit n ∷ []
+unfolding decimal
+decimal-small n h = digits-small n n h
+
+pub decimal-more : (n : ℕ) → 10 ≤ n → decimal n ≡ decimal (n / 10) ++ (digit (n % 10) ∷ [])
+unfolding decimal
+decimal-more zero h = absurd (omega arith)
+decimal-more (suc n) h =
+    digits-more n (suc n) h ∙ ap (λ w. w ++ (digit (suc n % 10) ∷ [])) (digits-room n (suc n / 10) (suc n / 10) (omega arith) (omega arith))
+
+-- so what holds of one digit, and with one digit more, holds of every number as it is written
+pub by-digits : (P : ℕ → List ℕ → Type 0)
+    → ((n : ℕ) → n < 10 → P n (digit n ∷ []))
+    → ((n : ℕ) → 10 ≤ n → (w : List ℕ) → P (n / 10) w → P n (w ++ (digit (n % 10) ∷ [])))
+    → (n : ℕ) → P n (decimal n)
+by-digits P one more n = below n n (omega arith)
+  where
+    below : (k n : ℕ) → n ≤ k → P n (decimal n)
+    below zero n h = subst (P n) (sym (decimal-small n (omega arith))) (one n (omega arith))
+    below (suc k) n h = by (ltb n 10)
+        (λ e. subst (P n) (sym (decimal-small n (ltb-true n 10 e))) (one n (ltb-true n 10 e)))
+        (λ e. let l : 10 ≤ n = ltb-false n 10 e in
+        subst (P n) (sym (decimal-more n l)) (more n l (decimal (n / 10)) (below k (n / 10) (omega arith))))
+
+-- ---- What is written is a number, and its value is the number
+
+value-snoc : (v : ℕ) (w : List ℕ) (c : ℕ) → valueFrom v (w ++ (c ∷ [])) ≡ 10 * valueFrom v w + (c - 48)
+unfolding valueFrom
+value-snoc v [] c = refl
+value-snoc v (x ∷ w) c = value-snoc (10 * v + (x - 48)) w c
+
+all-snoc : (w : List ℕ) (c : ℕ) → allOf isDigit w ≡ true → isDigit c ≡ true → allOf isDigit (w ++ (c ∷ [])) ≡ true
+all-snoc [] c p q = all-cons isDigit c [] ∙ ap (λ b. b && allOf isDigit []) q ∙ all-none isDigit
+all-snoc (x ∷ w) c p q =
+    let h : (isDigit x ≡ true) × (allOf isDigit w ≡ true) = and-true (isDigit x) (allOf isDigit w) (sym (all-cons isDigit x w) ∙ p) in
+    all-cons isDigit x (w ++ (c ∷ [])) ∙ ap₂ (λ a b. a && b) (h .0) (all-snoc w c (h .1) q)
+
+pub digit-is : (c : ℕ) → 48 ≤ c → c ≤ 57 → isDigit c ≡ true
+unfolding isDigit
+digit-is c p q = ap₂ (λ a b. a && b) (le-leb 48 c p) (le-leb c 57 q)
+
+pub is-digit : (c : ℕ) → isDigit c ≡ true → (48 ≤ c) × (c ≤ 57)
+unfolding isDigit
+is-digit c h = let p = and-true (leb 48 c) (leb c 57) h in (leb-true 48 c (p .0), leb-true c 57 (p .1))
+
+-- what is known of a number as it is written
+record Written (n : ℕ) (w : List ℕ) : Type 0 where
+  some : 1 ≤ length w
+  worth : valueOf w ≡ n
+  all-digits : allOf isDigit w ≡ true
+  long : 2 ≤ length w → 10 ≤ n
+  zero-first : getD w 0 0 ≡ 48 → n ≡ 0
+
+written : (n : ℕ) → Written n (decimal n)
+unfolding valueFrom
+written = by-digits Written
+    (λ n h. record {
+      some = omega arith;
+      worth = omega arith;
+      all-digits = all-cons isDigit (digit n) [] ∙ ap₂ (λ a b. a && b) (digit-is (digit n) (omega arith) (omega arith)) (all-none isDigit);
+      long = λ l. absurd (omega arith);
+      zero-first = λ z. omega arith;
+    })
+    (λ n h w p. record {
+      some = omega (arith, length-append w (digit (n % 10) ∷ []));
+      worth = value-snoc 0 w (digit (n % 10)) ∙ omega (arith, p .worth);
+      all-digits = all-snoc w (digit (n % 10)) (p .all-digits) (digit-is (digit (n % 10)) (omega arith) (omega arith));
+      long = λ l. h;
+      zero-first = λ z. let q : n / 10 ≡ 0 = p .zero-first (first (digit (n % 10)) w p z) in absurd (omega arith);
+    })
+  where
+    first : {n : ℕ} (d : ℕ) (w : List ℕ) → Written n w → getD (w ++ (d ∷ [])) 0 0 ≡ 48 → getD w 0 0 ≡ 48
+    first d [] p z = absurd (omega (arith, p .some))
+    first d (c ∷ w) p z = z
+
+pub value-decimal : (n : ℕ) → valueOf (decimal n) ≡ n
+value-decimal n = written n .worth
+
+pub decimal-some : (n : ℕ) → 1 ≤ length (decimal n)
+decimal-some n = written n .some
+
+pub decimal-digits : (n : ℕ) → allOf isDigit (decimal n) ≡ true
+decimal-digits n = written n .all-digits
+
+pub number-decimal : (limit n : ℕ) → n ≤ limit → isNumber limit (decimal n) ≡ true
+unfolding isNumber zeroLed
+number-decimal limit n h =
+    let w : List ℕ = decimal n in
+    let p : Written n w = written n in
+    let z : (eqb (getD w 0 0) 48 && leb 2 (length w)) ≡ false = by (eqb (getD w 0 0) 48)
+    (λ e. let n0 : n ≡ 0 = p .zero-first (eqb-true (getD w 0 0) 48 e) in
+    ap₂ (λ a b. a && b) e (short n w p n0))
+    (λ e. ap (λ a. a && leb 2 (length w)) e) in
+    ap₂ (λ a b. a && b) (le-leb 1 (length w) (p .some))
+    (ap₂ (λ a b. a && b) (ap not z) (ap₂ (λ a b. a && b) (p .all-digits) (le-leb (valueOf w) limit (omega (arith, p .worth)))))
+  where
+    short : (n : ℕ) (w : List ℕ) → Written n w → n ≡ 0 → leb 2 (length w) ≡ false
+    short n w p z = by (leb 2 (length w)) (λ e. absurd (omega (arith, p .long (leb-true 2 (length w) e)))) (λ e. e)
+
+-- ---- A word that is a number is what would be written
+
+-- after a number above 0, each digit is one digit more
+tail-written : (v : ℕ) (w : List ℕ) → 1 ≤ v → allOf isDigit w ≡ true → decimal (valueFrom v w) ≡ decimal v ++ w
+unfolding valueFrom
+tail-written v [] h d = sym (append-nil (decimal v))
+tail-written v (c ∷ w) h d =
+    let p : (isDigit c ≡ true) × (allOf isDigit w ≡ true) = and-true (isDigit c) (allOf isDigit w) (sym (all-cons isDigit c w) ∙ d) in
+    let q : (48 ≤ c) × (c ≤ 57) = is-digit c (p .0) in
+    let u : ℕ = 10 * v + (c - 48) in
+    let tenth : u / 10 ≡ v = omega arith in
+    let last : digit (u % 10) ≡ c = omega arith in
+    tail-written u w (omega arith) (p .1)
+    ∙ ap (λ x. x ++ w) (decimal-more u (omega arith) ∙ ap₂ (λ x y. decimal x ++ (y ∷ [])) tenth last)
+    ∙ append-assoc (decimal v) (c ∷ []) w
+
+-- the parts of the test
+record Reads (limit : ℕ) (w : List ℕ) : Type 0 where
+  some : 1 ≤ length w
+  led : zeroLed w ≡ false
+  all-digits : allOf isDigit w ≡ true
+  within : valueOf w ≤ limit
+
+reads : (limit : ℕ) (w : List ℕ) → isNumber limit w ≡ true → Reads limit w
+unfolding isNumber
+reads limit w h =
+    let a = and-true (leb 1 (length w)) (not (zeroLed w) && (allOf isDigit w && leb (valueOf w) limit)) h in
+    let b = and-true (not (zeroLed w)) (allOf isDigit w && leb (valueOf w) limit) (a .1) in
+    let c = and-true (allOf isDigit w) (leb (valueOf w) limit) (b .1) in
+    record { some = leb-true 1 (length w) (a .0); led = not-true (zeroLed w) (b .0); all-digits = c .0; within = leb-true (valueOf w) limit (c .1) }
+
+pub number-digits : (limit : ℕ) (w : List ℕ) → isNumber limit w ≡ true → allOf isDigit w ≡ true
+number-digits limit w h = reads limit w h .all-digits
+
+pub number-within : (limit : ℕ) (w : List ℕ) → isNumber limit w ≡ true → valueOf w ≤ limit
+number-within limit w h = reads limit w h .within
+
+-- the first digit is not 0, or it is the only one
+value-first : (c : ℕ) (w : List ℕ) → 48 ≤ c → c ≤ 57 → allOf isDigit w ≡ true → zeroLed (c ∷ w) ≡ false → decimal (valueOf (c ∷ w)) ≡ c ∷ w
+unfolding valueFrom zeroLed
+value-first c w p q d led = by (leb c 48) (λ e. alone w led (leb-true c 48 e)) (λ e. tailed (leb-false c 48 e))
+  where
+    v : ℕ
+    v = 10 * 0 + (c - 48)
+
+    written-v : decimal v ≡ c ∷ []
+    written-v = decimal-small v (omega arith) ∙ ap (λ x. x ∷ []) (omega arith)
+
+    tailed : 48 < c → decimal (valueFrom v w) ≡ c ∷ w
+    tailed h = tail-written v w (omega arith) d ∙ ap (λ x. x ++ w) written-v
+
+    alone : (w : List ℕ) → zeroLed (c ∷ w) ≡ false → c ≤ 48 → decimal (valueFrom v w) ≡ c ∷ w
+    alone [] led h = written-v
+    alone (x ∷ w) led h =
+        let e : eqb c 48 ≡ true = eq-eqb c 48 (omega arith) in
+        let l : leb 2 (length (c ∷ x ∷ w)) ≡ true = le-leb 2 (length (c ∷ x ∷ w)) (omega arith) in
+        absurd (subst T (sym (ap₂ (λ a b. a && b) e l) ∙ led) tt)
+
+pub decimal-value : (limit : ℕ) (w : List ℕ) → isNumber limit w ≡ true → decimal (valueOf w) ≡ w
+decimal-value limit w h = go w (reads limit w h)
+  where
+    go : (w : List ℕ) → Reads limit w → decimal (valueOf w) ≡ w
+    go [] r = absurd (omega (arith, r .some))
+    go (c ∷ w) r =
+        let d = and-true (isDigit c) (allOf isDigit w) (sym (all-cons isDigit c w) ∙ r .all-digits) in
+        let b = is-digit c (d .0) in
+        value-first c w (b .0) (b .1) (d .1) (r .led)

@@ -1,0 +1,10 @@
+pub mod Decimals
+pub mod Words
+pub mod Lines
+pub mod Files
+pub mod Scans
+pub mod Readings
+pub mod Makings
+pub mod Wholes
+pub mod Endings
+pub mod Demands

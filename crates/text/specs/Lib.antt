@@ -1,0 +1,6 @@
+pub mod Decimal
+pub mod Line
+pub mod File
+pub mod Examples
+pub mod Demands
+pub mod Steps
