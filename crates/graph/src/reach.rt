@@ -25,13 +25,16 @@ pub fn begin(work: &mut [u64])
     }
 }
 
-// Row t is joined into the row of each transaction that t reaches. It asks only what always holds,
-// and only of the square: so the compiler sees that every test of the loop lies in it.
+// Row t is joined into the row of each transaction that t reaches. What is asked first always
+// holds: with it, and with the square alone to test, the compiler leaves out the loop's own checks of places.
 fn spread(work: &mut [u64], t: u16)
     requires { ⌜ (4096 ≤ length (now work)) × (t < 512) ⌝ }
     ensures { λ _. ⌜ Spread t (now (work .entry)) (now (work .exit)) ⌝ }
 {
     if t >= 512 {
+        return;
+    }
+    if work.len() < 4096 {
         return;
     }
     let mut d: u16 = 0;
