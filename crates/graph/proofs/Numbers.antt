@@ -1,4 +1,5 @@
--- The transactions of a run of operations: their numbers are below how many there are, each has an operation, and all its operations have one thread.
+-- The transactions of a run of operations: their numbers are below how many there are, each has an operation, the lower number begins first, and all
+-- operations of one have one thread.
 use Prim.Native.Nat.{ℕ, zero, suc, pred, _<_, _≤_}
 use native.Mathlib.Omega.{arith}
 use mathlib.Core.Path.{_≡_, refl, sym, ap, _∙_, subst}
@@ -9,17 +10,17 @@ use lib.ListN.{getD, set, replicate, take}
 use lib.Seq.{getD-set-other}
 use lib.Dec.{T, eqb, eqb→eq, eqb-refl}
 use Rattle.record.specs.declared.Event.{Event}
-use Rattle.trace.specs.Paths.{Edge}
+use Rattle.trace.specs.Paths.{Edge, hasEdge}
 use Rattle.graph.specs.Conflict.{joins}
 use Rattle.graph.specs.Transactions.{Tally, none-yet, currentOf, begins, belongs, ends, tallied, Labelled, labelledFrom, labelled, tallyFrom, transactions}
 use Rattle.graph.specs.Edges.{makes, edgesOf, edges}
 use Rattle.graph.specs.Serial.{threadOf}
 use Rattle.trace.proofs.Tests.{by, T-of, or-right}
-use Rattle.trace.proofs.Lists.{Among, among-cons}
+use Rattle.trace.proofs.Lists.{Among, Before, among-cons, first-of, second-of, set-le}
 use Rattle.trace.proofs.Reach.{Bounded}
 use Rattle.trace.proofs.Serial.{Owned}
 use Rattle.graph.proofs.Clash.{conflict-sym, conflict-own}
-use Rattle.graph.proofs.Ends.{clash, owner}
+use Rattle.graph.proofs.Ends.{clash, owner, edge-has}
 
 -- ---- numbers are below how many there are
 
@@ -30,13 +31,6 @@ zeros : (n t : ℕ) → getD (replicate n 0) t 0 ≤ 0
 zeros zero t = omega arith
 zeros (suc n) zero = omega arith
 zeros (suc n) (suc t) = zeros n t
-
-set-le : (l : List ℕ) (i v m : ℕ) → v ≤ m → ((j : ℕ) → getD l j 0 ≤ m) → (j : ℕ) → getD (set l i v) j 0 ≤ m
-set-le [] i v m hv h j = h j
-set-le (x ∷ l) zero v m hv h zero = hv
-set-le (x ∷ l) zero v m hv h (suc j) = h (suc j)
-set-le (x ∷ l) (suc i) v m hv h zero = h zero
-set-le (x ∷ l) (suc i) v m hv h (suc j) = set-le l i v m hv (λ k. h (suc k)) j
 
 pub sane-none : Sane none-yet
 unfolding none-yet
@@ -131,20 +125,37 @@ labelled-take s (suc k) (e ∷ es) = ap (λ l. record { transaction = belongs s 
 
 -- ---- each transaction has an operation
 
+-- where the operation isn't of transaction a, which hasn't begun before it, a hasn't begun after it
+unbegun : (s : Tally) (e : Event) (a : ℕ) → s .count ≤ a → eqb (belongs s e) a ≡ false → tallied s e .count ≤ a
+unbegun s e a lo q = by (begins s e)
+    (λ b. above (s .count) a (tallied s e .count) (count-begun s e b) lo (λ z. other (belongs-first s e b ∙ z)))
+    (λ b. omega (arith, count-unbegun s e b))
+  where
+    other : belongs s e ≢ a
+    other z = subst T q (subst (λ c. T (eqb (belongs s e) c)) z (eqb-refl (belongs s e)))
+
+    above : (c a d : ℕ) → d ≡ suc c → c ≤ a → c ≢ a → d ≤ a
+    above c a d q lo ne = omega arith
+
 begun : (s : Tally) (es : List Event) (a : ℕ) → s .count ≤ a → a < tallyFrom s es .count → (x : Labelled) × Among x (labelledFrom s es) × (x .transaction ≡ a)
 unfolding tallyFrom labelledFrom
 begun s [] a lo hi = absurd (omega arith)
 begun s (e ∷ es) a lo hi = by (eqb (belongs s e) a)
     (λ q. (record { transaction = belongs s e; event = e }, Among.top, eqb→eq (belongs s e) a (T-of q)))
-    (λ q. let r = begun (tallied s e) es a (next-count (λ z. subst T q (subst (λ c. T (eqb (belongs s e) c)) z (eqb-refl (belongs s e))))) hi in (r .0, Among.deeper (r .1), r .2))
-  where
-    above : (c a d : ℕ) → d ≡ suc c → c ≤ a → c ≢ a → d ≤ a
-    above c a d q lo ne = omega arith
+    (λ q. let r = begun (tallied s e) es a (unbegun s e a lo q) hi in (r .0, Among.deeper (r .1), r .2))
 
-    next-count : belongs s e ≢ a → tallied s e .count ≤ a
-    next-count d = by (begins s e)
-        (λ b. above (s .count) a (tallied s e .count) (count-begun s e b) lo (λ z. d (belongs-first s e b ∙ z)))
-        (λ b. omega (arith, count-unbegun s e b))
+-- of two transactions, the one with the lower number begins first
+begun-before : (s : Tally) (es : List Event) (a b : ℕ) → s .count ≤ a → a < b → b < tallyFrom s es .count
+    → (x : Labelled) × (y : Labelled) × Before x y (labelledFrom s es) × (x .transaction ≡ a) × (y .transaction ≡ b)
+unfolding tallyFrom labelledFrom
+begun-before s [] a b lo lt hi = absurd (omega arith)
+begun-before s (e ∷ es) a b lo lt hi = by (eqb (belongs s e) a)
+    (λ q. let r = begun (tallied s e) es b (omega (arith, count-most s e)) hi in
+    (record { transaction = belongs s e; event = e }, r .0, Before.now (r .1), eqb→eq (belongs s e) a (T-of q), r .2))
+    (λ q. let r = begun-before (tallied s e) es a b (unbegun s e a lo q) lt hi in (r .0, r .1, Before.under (r .2), r .3, r .4))
+  where
+    count-most : (s : Tally) (e : Event) → tallied s e .count ≤ suc (s .count)
+    count-most s e = by (begins s e) (λ b. omega (arith, count-begun s e b)) (λ b. omega (arith, count-unbegun s e b))
 
 -- ---- all its operations have one thread
 
@@ -268,3 +279,22 @@ owned es = record {
   some = λ a h. begun none-yet es a (omega arith) h;
   one-thread = one-thread none-yet es sane-none apart-none;
 }
+
+-- two transactions of one thread have an edge, from the lower number to the higher
+pub thread-edge : (es : List Event) (a b : ℕ) → a < b → b < transactions es → threadOf (labelled es) a ≡ threadOf (labelled es) b → T (hasEdge (edges (labelled es)) a b)
+unfolding transactions none-yet
+thread-edge es a b lt hi same =
+    let r = begun-before none-yet es a b (omega arith) lt hi in
+    let x : Labelled = r .0 in
+    let y : Labelled = r .1 in
+    let thread-at : (z : Labelled) (c : ℕ) → Among z (labelled es) → z .transaction ≡ c → threadOf (labelled es) c ≡ threadIn z =
+    λ z c m e. ap (threadOf (labelled es)) (sym e) ∙ one-thread none-yet es sane-none apart-none z m in
+    edge-has (labelled es) a b (record {
+      x = x;
+      y = y;
+      x-of = r .3;
+      y-of = r .4;
+      order = r .2;
+      clash = clash-own x y (sym (thread-at x a (first-of (r .2)) (r .3)) ∙ same ∙ thread-at y b (second-of (r .2)) (r .4));
+      different = λ e. omega arith;
+    })

@@ -1,29 +1,27 @@
--- The serial order by rows: a transaction is free by the rows exactly if it is available by the edges, and taking one after the other
--- writes the serial order.
+-- The serial order by counts: a transaction is free by the edges exactly if it is its thread's next one and only itself is left, and taking one after
+-- the other writes the serial order.
 use Prim.Native.Nat.{ℕ, zero, suc, _+_, _-_, _*_, _^_, _<_, _≤_}
 use native.Mathlib.Omega.{arith}
 use native.Mathlib.Numerals.{add-one}
-use mathlib.Core.Path.{_≡_, refl, sym, ap, _∙_, subst}
-use mathlib.Core.Bool.{true, false, not, _||_}
+use mathlib.Core.Path.{_≡_, refl, sym, ap, ap₂, _∙_, subst}
+use mathlib.Core.Bool.{Bool, true, false, not, _&&_, _||_, and-true}
 use mathlib.Core.List.{List, [], _∷_}
 use lib.ListN.{length, getD, set, replicate}
 use lib.Seq.{sets}
-use lib.Dec.{T, eqb, eqb→eq, eqb-refl}
+use lib.Dec.{T, T-not, not-T, eqb, ltb, eqb→eq, eqb-refl, ltb→lt, nltb→le}
 use Rattle.trace.specs.Lists.{someOf, keep, member, below, over}
-use Rattle.trace.specs.Paths.{Edge, Path, reaches, cyclic}
+use Rattle.trace.specs.Paths.{Edge, Path, hasEdge, reaches, cyclic}
 use Rattle.trace.specs.Paths.Path.{here, there}
-use Rattle.trace.specs.Order.{available, lowest, taking}
-use Rattle.rows.specs.Bits.{has, marked, inside}
-use Rattle.graph.specs.declared.order.Pick.{Pick}
-use Rattle.graph.specs.declared.order.Pick.the-variants.{Nothing, At}
-use Rattle.graph.specs.Engine.{Stands, free, pickedFrom, freeOrder}
-use Rattle.trace.proofs.Tests.{by, by-same, T-of, T-is, and-left, and-right, and-both, or-cases, or-left, or-right, same-test}
-use Rattle.trace.proofs.Lists.{Among, member-cons, keep-same, keep-among, below-bound, sets-over}
+use Rattle.trace.specs.Order.{taking}
+use Rattle.rows.specs.Bits.{has, marked}
+use Rattle.graph.specs.Engine.{Stands, nextOf, leftOf, ready, firstReady, countOrder}
+use Rattle.trace.proofs.Tests.{by, by-same, T-of, T-is, and-left, and-right, and-both, or-cases, or-left, or-right}
+use Rattle.trace.proofs.Lists.{member-cons, keep-has, keep-none, below-has, count-less, among-length, first-holds, first-least, sets-over}
 use Rattle.trace.proofs.Reach.{Bounded, Last, last-edge, sound, complete, edge-back, edge-below}
-use Rattle.trace.proofs.Order.{taking-nil, taking-cons, lowest-among}
-use Rattle.trace.proofs.Greedy.{Direct, Free, free-of, available-of}
-use Rattle.rows.proofs.Laws.{zeros-none, marks-same, marks-other, inside-all, all-inside, length-marked}
-use Rattle.graph.proofs.Picked.{picked-lowest}
+use Rattle.trace.proofs.Greedy.{Direct, Free, Chosen, Linear, taking-chosen, taking-none}
+use Rattle.rows.proofs.Laws.{zeros-at, zeros-none, marks-same, marks-other, lacks}
+use Rattle.graph.proofs.Picked.{Row, row-marked, waits, next-thread, next-new, next-least, left-below, left-count}
+use borrow.Author.Tests.{lt-ltb, le-ltb, eq-eqb, ne-eqb, eqb-true}
 
 -- whoever leads to one that is taken is taken
 abbrev Closed : List Edge → List ℕ → Type 0
@@ -41,168 +39,210 @@ closed-more n g taken closed a f x y t p = or-cases (eqb x a) (member x taken) (
     (λ u. led n g taken closed a f y (subst (λ z. Path g y z) (eqb→eq x a u) p))
     (λ u. subst T (sym (member-cons y a taken)) (or-right (eqb y a) (member y taken) (closed x y u p)))
 
--- row 0 of the numbers holds those taken
-abbrev Holds : List ℕ → List ℕ → Type 0
-Holds row taken = (b : ℕ) → b < 512 → has row 0 b ≡ member b taken
+-- row 0 of the numbers holds those taken, and whoever leads to one of them is taken
+record Holds (g : List Edge) (row taken : List ℕ) : Type 0 where
+  whole : Row row
+  is : (b : ℕ) → b < 512 → has row 0 b ≡ member b taken
+  closed : Closed g taken
 
-module _ (n : ℕ) (thread : ℕ → ℕ) (g : List Edge) (bounded : Bounded n g) (acyclic : cyclic g ≡ false) (few : n ≤ 512)
-    (work : List ℕ) (stands : Stands work g) (small : (i : ℕ) → getD work i 0 < 2 ^ 64) where
-  module _ (row taken : List ℕ) (long : length row ≡ 8) (holds : Holds row taken) where
-    -- one more marked
-    holds-more : (c : ℕ) → c < 512 → Holds (marked row 0 c) (c ∷ taken)
-    holds-more c h b k = by-same b c
-        (λ e. subst (λ d. has (marked row 0 c) 0 d ≡ true) (sym e) (marks-same row 0 c h (omega arith))
-        ∙ sym (member-cons b c taken ∙ ap (λ t. t || member b taken) (T-is (eqb b c) (subst (λ d. T (eqb b d)) e (eqb-refl b)))))
-        (λ d. marks-other row 0 c h (omega arith) 0 b k (λ p q. d (sym q)) ∙ holds b k
-        ∙ sym (member-cons b c taken ∙ ap (λ t. t || member b taken) (by (eqb b c) (λ t. absurd (d (eqb→eq b c (T-of t)))) (λ t. t))))
+holds-none : (g : List Edge) → Holds g (replicate 8 0) []
+unfolding member someOf
+holds-none g = record {
+  whole = record { size = refl; small = λ i. omega (arith, zeros-at 8 i) };
+  is = λ b h. zeros-none 8 0 b;
+  closed = λ x y t p. absurd t;
+}
 
-    module _ (closed : Closed g taken) (a : ℕ) (in-n : a < n) where
-      in-row : a * 8 + 8 ≤ length work
-      in-row = omega (arith, stands .long)
+holds-more : (n : ℕ) (g : List Edge) (row taken : List ℕ) → n ≤ 512 → Holds g row taken → (c : ℕ) → Free n (Direct g) taken c → Holds g (marked row 0 c) (c ∷ taken)
+holds-more n g row taken few s c f = record { whole = row-marked row c (s .whole); is = is; closed = closed-more n g taken (s .closed) c f }
+  where
+    in-c : c < 512
+    in-c = omega (arith, f .small)
 
-      in-marked : 0 * 8 + 8 ≤ length (marked row 0 a)
-      in-marked = omega (arith, length-marked row 0 a)
+    in-row : 0 * 8 + 8 ≤ length row
+    in-row = omega (arith, s .whole .size)
 
-      -- free by the rows is free by the edges, and the other way round
-      edges-free : T (free work row a) → Free n (Direct g) taken a
-      unfolding free
-      edges-free t =
-          let new : T (not (member a taken)) = subst (λ p. T (not p)) (holds a (omega arith)) (and-left (not (has row 0 a)) (inside work a (marked row 0 a) 0) t) in
-          let all : inside work a (marked row 0 a) 0 ≡ true = T-is (inside work a (marked row 0 a) 0) (and-right (not (has row 0 a)) (inside work a (marked row 0 a) 0) t) in
-          record {
-            small = in-n;
-            new = new;
-            ready = λ b e.
-                let in-b : b < 512 = omega (arith, edge-below n g bounded b a e .0) in
-                let set : has work a b ≡ true = stands .is b a in-b (omega arith) ∙ T-is (reaches g b a) (complete g (there e here)) in
-                let found : has (marked row 0 a) 0 b ≡ true = inside-all work a (marked row 0 a) 0 in-row in-marked all b in-b set in
-                or-cases (eqb b a) (member b taken) (T-of (sym (member-cons b a taken) ∙ sym (holds-more a (omega arith) b in-b) ∙ found))
-                (λ u. let q : b ≡ a = eqb→eq b a u in
-                absurd (subst T acyclic (edge-back g b a e (complete g (subst (λ z. Path g a z) (sym q) here)))))
-                (λ u. u);
-          }
+    is : (b : ℕ) → b < 512 → has (marked row 0 c) 0 b ≡ member b (c ∷ taken)
+    is b k = by-same b c
+        (λ e. subst (λ d. has (marked row 0 c) 0 d ≡ true) (sym e) (marks-same row 0 c in-c in-row)
+        ∙ sym (member-cons b c taken ∙ ap (λ t. t || member b taken) (eq-eqb b c e)))
+        (λ d. marks-other row 0 c in-c in-row 0 b k (λ p q. d (sym q)) ∙ s .is b k
+        ∙ sym (member-cons b c taken ∙ ap (λ t. t || member b taken) (ne-eqb b c d)))
 
-      free-edges : Free n (Direct g) taken a → T (free work row a)
-      unfolding free
-      free-edges f = and-both (not (has row 0 a)) (inside work a (marked row 0 a) 0)
-          (subst (λ p. T (not p)) (sym (holds a (omega arith))) (f .new))
-          (T-of (all-inside work a (marked row 0 a) 0 in-row in-marked small (λ c in-c set.
-          holds-more a (omega arith) c in-c ∙ T-is (member c (a ∷ taken)) (led n g taken closed a f c (sound g c a (T-of (sym (stands .is c a in-c (omega arith)) ∙ set)))))))
+-- n transactions of m threads, and rows that stand for edges without a cycle, where two transactions of one thread have an edge
+pub record Given (n m : ℕ) (thread : ℕ → ℕ) (g : List Edge) (work : List ℕ) : Type 0 where
+  pub few : n ≤ 512
+  pub threads : (a : ℕ) → a < n → thread a < m
+  pub ordered : (a b : ℕ) → a < b → b < n → thread a ≡ thread b → T (hasEdge g a b)
+  pub bounded : Bounded n g
+  pub acyclic : cyclic g ≡ false
+  pub stands : Stands work g
+  pub small : (i : ℕ) → getD work i 0 < 2 ^ 64
 
-      pub free-is : free work row a ≡ available n thread g taken a
-      free-is = same-test (free work row a) (available n thread g taken a)
-          (λ t. available-of n thread g a taken (edges-free t))
-          (λ t. free-edges (free-of n thread g a taken in-n t))
-
-    module _ (closed : Closed g taken) where
-      free-all : keep (free work row) (below n) ≡ keep (available n thread g taken) (below n)
-      free-all = keep-same (free work row) (available n thread g taken) (below n) (λ a m. free-is closed a (below-bound n a m))
-
-      -- none is free: the order ends
-      pub found-nothing : (k : ℕ) → pickedFrom thread Nothing (keep (free work row) (below n)) ≡ Nothing → taking n thread g (suc k) taken ≡ []
-      unfolding pickedFrom
-      found-nothing k e = go (keep (available n thread g taken) (below n)) refl
-        where
-          go : (av : List ℕ) → keep (available n thread g taken) (below n) ≡ av → taking n thread g (suc k) taken ≡ []
-          go [] q = taking-nil n thread g taken k q
-          go (a ∷ bs) q =
-              let is : pickedFrom thread Nothing (keep (free work row) (below n)) ≡ At (lowest n thread g bs a) (thread (lowest n thread g bs a)) = ap (pickedFrom thread Nothing) (free-all ∙ q) ∙ picked-lowest n thread g bs a in
-              let z : _≡_ {A = ℕ} 0 1 = cc (is, e) in absurd (omega arith)
-
-      -- one is found: it is the next of the order
-      pub record Next (k c : ℕ) : Type 0 where
-        pub below-n : c < n
-        pub goes : taking n thread g (suc k) taken ≡ c ∷ taking n thread g k (c ∷ taken)
-        pub closed-next : Closed g (c ∷ taken)
-
-      pub found-at : (k c t : ℕ) → pickedFrom thread Nothing (keep (free work row) (below n)) ≡ At c t → Next k c
-      unfolding pickedFrom
-      found-at k c t e = go (keep (available n thread g taken) (below n)) refl
-        where
-          go : (av : List ℕ) → keep (available n thread g taken) (below n) ≡ av → Next k c
-          go [] q =
-              let is : pickedFrom thread Nothing (keep (free work row) (below n)) ≡ Nothing = ap (pickedFrom thread Nothing) (free-all ∙ q) in
-              let z : _≡_ {A = ℕ} 0 1 = cc (is, e) in absurd (omega arith)
-          go (a ∷ bs) q =
-              let is : pickedFrom thread Nothing (keep (free work row) (below n)) ≡ At (lowest n thread g bs a) (thread (lowest n thread g bs a)) = ap (pickedFrom thread Nothing) (free-all ∙ q) ∙ picked-lowest n thread g bs a in
-              let same : lowest n thread g bs a ≡ c = cc (is, e) in
-              let m : Among c (keep (available n thread g taken) (below n)) =
-              subst (λ l. Among c l) (sym q) (subst (λ d. Among d (a ∷ bs)) same (lowest-among n thread g taken k bs a)) in
-              let r = keep-among (available n thread g taken) c (below n) m in
-              record {
-                below-n = below-bound n c (r .0);
-                goes = taking-cons n thread g taken k a bs q ∙ ap (λ d. d ∷ taking n thread g k (d ∷ taken)) same;
-                closed-next = closed-more n g taken closed c (free-of n thread g c taken (below-bound n c (r .0)) (r .1));
-              }
-
--- ---- the order by rows, step by step
-
-module _ (work : List ℕ) (thread : ℕ → ℕ) (n : ℕ) where
-  -- what is found next
-  abbrev pub found : List ℕ → Pick
-  found taken = pickedFrom thread Nothing (keep (free work taken) (below n))
-
-  free-ends : (k : ℕ) (taken : List ℕ) → found taken ≡ Nothing → freeOrder work thread n (suc k) taken ≡ []
-  unfolding freeOrder
-  free-ends k taken e = rw (e, freeOrder)
-
-  free-goes : (k : ℕ) (taken : List ℕ) (c t : ℕ) → found taken ≡ At c t → freeOrder work thread n (suc k) taken ≡ c ∷ freeOrder work thread n k (marked taken 0 c)
-  unfolding freeOrder
-  free-goes k taken c t e = rw (e, freeOrder)
-
-  free-short : (k : ℕ) (taken : List ℕ) → length (freeOrder work thread n k taken) ≤ k
-  unfolding freeOrder
-  free-short zero taken = omega arith
-  free-short (suc k) taken = go (found taken) refl (λ c. free-short k (marked taken 0 c))
+module _ (n m : ℕ) (thread : ℕ → ℕ) (g : List Edge) (work : List ℕ) (h : Given n m thread g work) where
+  linear : Linear n (Direct g) thread
+  linear a b in-a in-b same to fro = by-same a b (λ e. e) (λ d. by (ltb a b)
+      (λ e. absurd (to (h .ordered a b (ltb→lt a b (T-of e)) in-b same)))
+      (λ e. absurd (fro (h .ordered b a (higher a b d (nltb→le a b (T-of (ap not e)))) in-a (sym same)))))
     where
-      go : (p : Pick) → found taken ≡ p → ((c : ℕ) → length (freeOrder work thread n k (marked taken 0 c)) ≤ k) → length (freeOrder work thread n (suc k) taken) ≤ suc k
-      go Nothing e again = omega (arith, ap length (free-ends k taken e))
-      go (At c t) e again = omega (arith, ap length (free-goes k taken c t e), again c)
+      higher : (a b : ℕ) → (a ≡ b → ⊥) → b ≤ a → b < a
+      higher a b d le = omega arith
+
+  module _ (row taken : List ℕ) (s : Holds g row taken) where
+    -- who is counted: whoever leads to a and isn't taken
+    counted-is : (a b : ℕ) → a < 512 → b < 512 → lacks work a row 0 b ≡ (reaches g b a && not (member b taken))
+    counted-is a b in-a in-b = ap₂ (λ p q. p && not q) (h .stands .is b a in-b in-a) (s .is b in-b)
+
+    counted : (a b : ℕ) → a < 512 → b < 512 → Path g b a → T (not (member b taken)) → lacks work a row 0 b ≡ true
+    counted a b in-a in-b p new = counted-is a b in-a in-b ∙ T-is (reaches g b a && not (member b taken)) (and-both (reaches g b a) (not (member b taken)) (complete g p) new)
+
+    left-is : (a : ℕ) → a < n → leftOf work n row a ≡ length (keep (lacks work a row 0) (below 512))
+    left-is a in-n = left-count work n (h .few) (h .stands .long) (h .small) row (s .whole) a in-n
+
+    -- of a free one only itself is left
+    free-left : (a : ℕ) → Free n (Direct g) taken a → leftOf work n row a ≡ 1
+    free-left a f =
+        let in-a : a < 512 = omega (arith, f .small, h .few) in
+        left-is a (f .small)
+        ∙ count-less (lacks work a row 0) (λ b. false) a 0 512 (omega arith) in-a (counted a a in-a in-a here (f .new)) refl (λ b in-b d. by (lacks work a row 0 b)
+        (λ e. let two : T (reaches g b a && not (member b taken)) = T-of (sym (counted-is a b in-a in-b) ∙ e) in
+        or-cases (eqb b a) (member b taken)
+        (subst T (member-cons b a taken) (led n g taken (s .closed) a f b (sound g b a (and-left (reaches g b a) (not (member b taken)) two))))
+        (λ u. absurd (d (eqb→eq b a u)))
+        (λ u. absurd (T-not (member b taken) (and-right (reaches g b a) (not (member b taken)) two) u)))
+        (λ e. e))
+        ∙ ap (λ l. suc (length l)) (keep-none (λ b. false) (below 512) (λ b i. refl))
+
+    -- and one that isn't taken, of which only itself is left, is free
+    left-free : (a : ℕ) → a < n → T (not (member a taken)) → leftOf work n row a ≡ 1 → Free n (Direct g) taken a
+    left-free a in-n new one = record {
+      small = in-n;
+      new = new;
+      ready = λ b e. by (member b taken) T-of (λ q. absurd (two b e (T-of (ap not q))));
+    }
+      where
+        two : (b : ℕ) → T (hasEdge g b a) → T (not (member b taken)) → ⊥
+        two b e new-b =
+            let in-a : a < 512 = omega (arith, h .few) in
+            let in-b : b < 512 = omega (arith, h .few, edge-below n g (h .bounded) b a e .0) in
+            let apart : a ≡ b → ⊥ = λ q. subst T (h .acyclic) (edge-back g b a e (complete g (subst (λ z. Path g a z) q here))) in
+            let p : ℕ → Bool = lacks work a row 0 in
+            let q : ℕ → Bool = λ c. p c && not (eqb c b) in
+            let both : p b ≡ true = counted a b in-a in-b (there e here) new-b in
+            let more : length (keep p (below 512)) ≡ suc (length (keep q (below 512))) =
+            count-less p q b 0 512 (omega arith) in-b both (ap₂ (λ c d. c && not d) both (eq-eqb b b refl)) (λ c in-c d. sym (ap (λ t. p c && not t) (ne-eqb c b d) ∙ and-true (p c))) in
+            let own : T (q a) = and-both (p a) (not (eqb a b)) (T-of (counted a a in-a in-a here new)) (T-of (ap not (ne-eqb a b apart))) in
+            omega (arith, one, left-is a in-n, more, among-length (keep q (below 512)) (keep-has q a (below 512) (below-has 512 a in-a) own))
+
+    -- a free one is its thread's next
+    free-next : (a : ℕ) → Free n (Direct g) taken a → nextOf thread n row (thread a) ≡ a
+    free-next a f = by-same c a (λ e. e) (λ d.
+        let lt : c < a = lower c a d le in
+        let in-c : c < n = omega (arith, f .small) in
+        absurd (subst T (sym (s .is c (omega (arith, h .few))) ∙ next-new thread n row (thread a) in-c) (f .ready c (h .ordered c a lt (f .small) (next-thread thread n row (thread a) in-c)))))
+      where
+        c : ℕ
+        c = nextOf thread n row (thread a)
+
+        le : c ≤ a
+        le = next-least thread n row (thread a) a (f .small)
+            (and-both (eqb (thread a) (thread a)) (not (has row 0 a)) (eqb-refl (thread a)) (subst (λ p. T (not p)) (sym (s .is a (omega (arith, f .small, h .few)))) (f .new)))
+
+        lower : (c a : ℕ) → (c ≡ a → ⊥) → c ≤ a → c < a
+        lower c a d le = omega arith
+
+    free-ready : (a : ℕ) → Free n (Direct g) taken a → ready work thread n row (thread a) ≡ true
+    free-ready a f = eq-eqb (leftOf work n row (nextOf thread n row (thread a))) 1 (ap (leftOf work n row) (free-next a f) ∙ free-left a f)
+
+    -- and the next one of a thread that is ready is free
+    ready-free : (t : ℕ) → T (ready work thread n row t) → Free n (Direct g) taken (nextOf thread n row t)
+    ready-free t r =
+        let c : ℕ = nextOf thread n row t in
+        let one : leftOf work n row c ≡ 1 = eqb→eq (leftOf work n row c) 1 r in
+        let in-n : c < n = left-below work n row c one in
+        left-free c in-n (T-of (ap not (sym (s .is c (omega (arith, h .few))) ∙ next-new thread n row t in-n))) one
+
+    -- so the one that is found is the next of the order
+    found-ready : firstReady work thread n m row < m → T (ready work thread n row (firstReady work thread n m row))
+    found-ready lt = first-holds (ready work thread n row) m (below m) (λ e. absurd (omega (arith, lt, e)))
+
+    found-least : (a : ℕ) → Free n (Direct g) taken a → firstReady work thread n m row ≤ thread a
+    found-least a f = first-least (ready work thread n row) m 0 m (thread a) (below-has m (thread a) (h .threads a (f .small))) (T-of (free-ready a f))
+
+    found-chosen : firstReady work thread n m row < m → Chosen n (Direct g) thread taken (nextOf thread n row (firstReady work thread n m row))
+    found-chosen lt =
+        let f = ready-free (firstReady work thread n m row) (found-ready lt) in
+        record { free = f; least = λ b fb. omega (arith, next-thread thread n row (firstReady work thread n m row) (f .small), found-least b fb) }
+
+    found-none : m ≤ firstReady work thread n m row → (a : ℕ) → Free n (Direct g) taken a → ⊥
+    found-none le a f = omega (arith, found-least a f, h .threads a (f .small))
+
+-- ---- the order by counts, step by step
+
+module _ (work : List ℕ) (thread : ℕ → ℕ) (n m : ℕ) where
+  count-ends : (k : ℕ) (taken : List ℕ) → m ≤ firstReady work thread n m taken → countOrder work thread n m (suc k) taken ≡ []
+  unfolding countOrder
+  count-ends k taken h = rw (le-ltb (firstReady work thread n m taken) m h, countOrder)
+
+  -- the transaction that is taken
+  abbrev pub found : List ℕ → ℕ
+  found taken = nextOf thread n taken (firstReady work thread n m taken)
+
+  count-goes : (k : ℕ) (taken : List ℕ) → firstReady work thread n m taken < m
+      → countOrder work thread n m (suc k) taken ≡ found taken ∷ countOrder work thread n m k (marked taken 0 (found taken))
+  unfolding countOrder
+  count-goes k taken h = rw (lt-ltb (firstReady work thread n m taken) m h, countOrder)
+
+  count-short : (k : ℕ) (taken : List ℕ) → length (countOrder work thread n m k taken) ≤ k
+  unfolding countOrder
+  count-short zero taken = omega arith
+  count-short (suc k) taken = by (ltb (firstReady work thread n m taken) m)
+      (λ e. omega (arith, ap length (count-goes k taken (ltb→lt (firstReady work thread n m taken) m (T-of e))), count-short k (marked taken 0 (found taken))))
+      (λ e. omega (arith, ap length (count-ends k taken (nltb→le (firstReady work thread n m taken) m (T-of (ap not e))))))
 
   -- what is written when i places are written, and those in the row are taken
   abbrev pub writes : ℕ → List ℕ → List ℕ → List ℕ
-  writes i taken order = sets order i (freeOrder work thread n (n - i) taken)
+  writes i taken order = sets order i (countOrder work thread n m (n - i) taken)
 
   module _ (i : ℕ) (taken order : List ℕ) (h : i < n) where
     left : n - i ≡ suc (n - (i + 1))
     left = omega arith
 
-    pub write-goes : (c t : ℕ) → found taken ≡ At c t → writes (i + 1) (marked taken 0 c) (set order i c) ≡ writes i taken order
-    write-goes c t e =
-        ap (λ k. sets (set order i c) k (freeOrder work thread n (n - (i + 1)) (marked taken 0 c))) (add-one i)
-        ∙ ap (sets order i) (sym (ap (λ k. freeOrder work thread n k taken) left ∙ free-goes (n - (i + 1)) taken c t e))
+    pub write-goes : firstReady work thread n m taken < m → writes (i + 1) (marked taken 0 (found taken)) (set order i (found taken)) ≡ writes i taken order
+    write-goes e =
+        ap (λ k. sets (set order i (found taken)) k (countOrder work thread n m (n - (i + 1)) (marked taken 0 (found taken)))) (add-one i)
+        ∙ ap (sets order i) (sym (ap (λ k. countOrder work thread n m k taken) left ∙ count-goes (n - (i + 1)) taken e))
 
-    pub write-ends : found taken ≡ Nothing → order ≡ writes i taken order
-    write-ends e = ap (sets order i) (sym (ap (λ k. freeOrder work thread n k taken) left ∙ free-ends (n - (i + 1)) taken e))
+    pub write-ends : m ≤ firstReady work thread n m taken → order ≡ writes i taken order
+    write-ends e = ap (sets order i) (sym (ap (λ k. countOrder work thread n m k taken) left ∙ count-ends (n - (i + 1)) taken e))
 
   pub write-none : (i : ℕ) (taken order : List ℕ) → n ≤ i → order ≡ writes i taken order
-  unfolding freeOrder
-  write-none i taken order h = let e : n - i ≡ 0 = omega arith in ap (sets order i) (sym (ap (λ k. freeOrder work thread n k taken) e))
+  unfolding countOrder
+  write-none i taken order h = let e : n - i ≡ 0 = omega arith in ap (sets order i) (sym (ap (λ k. countOrder work thread n m k taken) e))
 
-  pub write-all : (taken order : List ℕ) → n ≤ length order → writes 0 taken order ≡ over (freeOrder work thread n n taken) order
+  pub write-all : (taken order : List ℕ) → n ≤ length order → writes 0 taken order ≡ over (countOrder work thread n m n taken) order
   write-all taken order h =
       let e : n - 0 ≡ n = omega arith in
-      ap (λ k. sets order 0 (freeOrder work thread n k taken)) e ∙ sets-over (freeOrder work thread n n taken) order (omega (arith, free-short n taken))
+      ap (λ k. sets order 0 (countOrder work thread n m k taken)) e ∙ sets-over (countOrder work thread n m n taken) order (omega (arith, count-short n taken))
 
--- ---- the order by rows is the serial order
+-- ---- the order by counts is the serial order
 
-module _ (n : ℕ) (thread : ℕ → ℕ) (g : List Edge) (bounded : Bounded n g) (acyclic : cyclic g ≡ false) (few : n ≤ 512)
-    (work : List ℕ) (stands : Stands work g) (small : (i : ℕ) → getD work i 0 < 2 ^ 64) where
-  order-taking : (k : ℕ) (row taken : List ℕ) → length row ≡ 8 → Holds row taken → Closed g taken → freeOrder work thread n k row ≡ taking n thread g k taken
-  unfolding freeOrder taking
-  order-taking zero row taken long holds closed = refl
-  order-taking (suc k) row taken long holds closed = go (found work thread n row) refl
-      (λ c l. order-taking k (marked row 0 c) (c ∷ taken) (length-marked row 0 c ∙ long) (holds-more n thread g bounded acyclic few work stands small row taken long holds c l))
-    where
-      go : (p : Pick) → found work thread n row ≡ p
-          → ((c : ℕ) → c < 512 → Closed g (c ∷ taken) → freeOrder work thread n k (marked row 0 c) ≡ taking n thread g k (c ∷ taken))
-          → freeOrder work thread n (suc k) row ≡ taking n thread g (suc k) taken
-      go Nothing e again = free-ends work thread n k row e ∙ sym (found-nothing n thread g bounded acyclic few work stands small row taken long holds closed k e)
-      go (At c t) e again =
-          let s = found-at n thread g bounded acyclic few work stands small row taken long holds closed k c t e in
-          free-goes work thread n k row c t e ∙ ap (λ r. c ∷ r) (again c (omega (arith, s .below-n)) (s .closed-next)) ∙ sym (s .goes)
+module _ (n m : ℕ) (thread : ℕ → ℕ) (g : List Edge) (work : List ℕ) (h : Given n m thread g work) where
+  order-taking : (k : ℕ) (row taken : List ℕ) → Holds g row taken → countOrder work thread n m k row ≡ taking n thread g k taken
+  unfolding countOrder taking
+  order-taking zero row taken s = refl
+  order-taking (suc k) row taken s =
+      let t : ℕ = firstReady work thread n m row in
+      let c : ℕ = found work thread n m row in
+      by (ltb t m)
+      (λ e. let lt : t < m = ltb→lt t m (T-of e) in
+      let chosen = found-chosen n m thread g work h row taken s lt in
+      count-goes work thread n m k row lt
+      ∙ ap (λ o. c ∷ o) (order-taking k (marked row 0 c) (c ∷ taken) (holds-more n g row taken (h .few) s c (chosen .free)))
+      ∙ sym (taking-chosen n thread g (linear n m thread g work h) taken k c chosen))
+      (λ e. let le : m ≤ t = nltb→le t m (T-of (ap not e)) in
+      count-ends work thread n m k row le ∙ sym (taking-none n thread g taken k (found-none n m thread g work h row taken s le)))
 
-  -- The order by rows, where they stand for the edges, is the serial order
-  pub order-is : freeOrder work thread n n (replicate 8 0) ≡ taking n thread g n []
-  unfolding member someOf
-  order-is = order-taking n (replicate 8 0) [] refl (λ b h. zeros-none 8 0 b) (λ x y t p. absurd t)
+  -- The order by counts, where the rows stand for the edges, is the serial order
+  pub order-is : countOrder work thread n m n (replicate 8 0) ≡ taking n thread g n []
+  order-is = order-taking n (replicate 8 0) [] (holds-none g)

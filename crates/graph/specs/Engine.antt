@@ -1,18 +1,16 @@
 -- What the engine's private functions promise one another: the records as arrays hold them, and the rows that stand for who reaches whom.
 -- A reader of the public promise need not read this.
-use Prim.Native.Nat.{ℕ, zero, suc, _<_, _≤_}
+use Prim.Native.Nat.{ℕ, zero, suc, _-_, _<_, _≤_}
 use mathlib.Core.Path.{_≡_}
-use mathlib.Core.Bool.{Bool, false, cond, not, _&&_, _||_}
+use mathlib.Core.Bool.{Bool, true, false, cond, not, _&&_, _||_}
 use mathlib.Core.List.{List, [], _∷_, _++_}
 use lib.ListN.{length, getD, take, drop}
-use lib.Dec.{ltb}
+use lib.Dec.{eqb, ltb}
 use Rattle.record.specs.declared.Event.{Event}
 use Rattle.record.specs.declared.Op.the-variants.{Read}
-use Rattle.trace.specs.Lists.{keep, firstOf, from, below}
+use Rattle.trace.specs.Lists.{firstOf, from, below}
 use Rattle.trace.specs.Paths.{Edge, reaches, cyclic}
-use Rattle.rows.specs.Bits.{has, marked, inside}
-use Rattle.graph.specs.declared.order.Pick.{Pick}
-use Rattle.graph.specs.declared.order.Pick.the-variants.{Nothing, At}
+use Rattle.rows.specs.Bits.{has, marked, beyond}
 use Rattle.graph.specs.declared.label.Labelling.{Labelling}
 use Rattle.graph.specs.declared.label.Labelling.the-variants.{Done, Full}
 use Rattle.graph.specs.Transactions.{Labelled, labelled, transactions, transactionLimit}
@@ -71,27 +69,37 @@ pub record Sought (xs : List Labelled) (labels : List ℕ) (before after : List 
   pub row : (k : ℕ) → r ≡ suc k → (a : ℕ) → a < 512 → has after (getD labels k 0) a ≡ reaches (edges (take (suc k) xs)) a (getD labels k 0)
   pub rest : drop 4096 after ≡ drop 4096 before
 
--- ---- the serial order by rows
+-- ---- the serial order by counts. Row 0 of `taken` holds the transactions that are taken
 
--- whether transaction a isn't taken and all its other ancestors are, where row 0 of `taken` holds those taken
-unfoldable pub free : List ℕ → List ℕ → ℕ → Bool
-free work taken a = not (has taken 0 a) && inside work a (marked taken 0 a) 0
+-- the lowest of n transactions, from a on, that is of thread t and isn't taken; n where there is none
+unfoldable pub nextFrom : (ℕ → ℕ) → ℕ → List ℕ → ℕ → ℕ → ℕ
+nextFrom thread n taken t a = firstOf (λ b. eqb (thread b) t && not (has taken 0 b)) n (from a (n - a))
 
--- of the one found so far and transaction b of thread u: the one with the lower thread, the first where they are the same
-abbrev pub better : Pick → ℕ → ℕ → Pick
-better Nothing b u = At b u
-better (At a t) b u = cond (ltb u t) (At b u) (At a t)
+-- a thread's next transaction
+abbrev pub nextOf : (ℕ → ℕ) → ℕ → List ℕ → ℕ → ℕ
+nextOf thread n taken t = nextFrom thread n taken t 0
 
--- the best of a list, and of the one found so far
-unfoldable pub pickedFrom : (ℕ → ℕ) → Pick → List ℕ → Pick
-pickedFrom thread best [] = best
-pickedFrom thread best (b ∷ bs) = pickedFrom thread (better best b (thread b)) bs
+-- how many ancestors of a aren't taken, a itself included; 0 where a isn't one of n
+unfoldable pub leftOf : List ℕ → ℕ → List ℕ → ℕ → ℕ
+leftOf work n taken a = cond (ltb a n) (beyond work a taken 0) 0
 
--- at most k more of n transactions, the free one with the lowest thread first, until none is free
-unfoldable pub freeOrder : List ℕ → (ℕ → ℕ) → ℕ → ℕ → List ℕ → List ℕ
-freeOrder work thread n zero taken = []
-freeOrder work thread n (suc k) taken =
-    elim (pickedFrom thread Nothing (keep (free work taken) (below n))) [
-      | Nothing ↦ []
-      | At c t ↦ c ∷ freeOrder work thread n k (marked taken 0 c)
-    ]
+-- whether nothing is left for a thread's next transaction to wait for but itself
+abbrev pub ready : List ℕ → (ℕ → ℕ) → ℕ → List ℕ → ℕ → Bool
+ready work thread n taken t = eqb (leftOf work n taken (nextOf thread n taken t)) 1
+
+-- the lowest of m threads that is ready; m where none is
+abbrev pub firstReady : List ℕ → (ℕ → ℕ) → ℕ → ℕ → List ℕ → ℕ
+firstReady work thread n m taken = firstOf (ready work thread n taken) m (below m)
+
+-- at most k more of n transactions, of m threads: the next transaction of the lowest thread that is ready, until none is
+unfoldable pub countOrder : List ℕ → (ℕ → ℕ) → ℕ → ℕ → ℕ → List ℕ → List ℕ
+countOrder work thread n m zero taken = []
+countOrder work thread n m (suc k) taken =
+    let t : ℕ = firstReady work thread n m taken in
+    let c : ℕ = nextOf thread n taken t in
+    elim (ltb t m) [ true ↦ c ∷ countOrder work thread n m k (marked taken 0 c) | false ↦ [] ]
+
+-- the arrays hold, for each of m threads, its next transaction and how much is left for that one
+abbrev pub Counts : List ℕ → (ℕ → ℕ) → ℕ → ℕ → List ℕ → List ℕ → List ℕ → Type 0
+Counts work thread n m taken nexts lefts =
+    (t : ℕ) → t < m → (getD nexts t 0 ≡ nextOf thread n taken t) × (getD lefts t 0 ≡ leftOf work n taken (nextOf thread n taken t))

@@ -1,23 +1,20 @@
-// The serial order: again and again, of the transactions whose ancestors have all been taken, the one with the lowest thread.
+// The serial order: again and again, of the transactions whose ancestors have all been taken, the one with the lowest thread. Two transactions of
+// one thread are never both available, so only each thread's next one is looked at; for that one there is a count of the ancestors not yet taken.
 use record::Event;
 ghost use mathlib.Core.Path.{_≡_};
-ghost use mathlib.Core.Bool.{false, not, _&&_};
+ghost use mathlib.Core.Bool.{false, cond};
 ghost use mathlib.Core.List.{[]};
-ghost use Prim.Native.Nat.{ℕ, _≤_, _<_};
+ghost use Prim.Native.Nat.{ℕ, _-_, _≤_, _<_};
+ghost use lib.Dec.{eqb};
 ghost use lib.ListN.{length, getD, replicate};
-ghost use Rattle.trace.specs.Lists.{keep, below, over};
+ghost use Rattle.trace.specs.Lists.{firstOf, below, over};
 ghost use Rattle.trace.specs.Paths.{cyclic};
 ghost use Rattle.trace.specs.Order.{taking};
 ghost use Rattle.rows.specs.Bits.{has};
-ghost use Rattle.graph.specs.Engine.{held, Few, Stands, free, better, pickedFrom, freeOrder};
+ghost use Rattle.graph.specs.declared.label.Labelling.the-variants.{Done};
+ghost use Rattle.graph.specs.Engine.{held, Few, Labels, Stands, nextFrom, leftOf, countOrder, Counts};
 ghost use Rattle.graph.specs.Edges.{edges};
 ghost use Rattle.graph.specs.Serial.{threadOf};
-
-// What looking for the next transaction finds: none can be taken, or the one to take and its thread.
-pub enum Pick {
-    Nothing,
-    At { transaction: u16, thread: u8 },
-}
 
 // The thread of each transaction, into an array of zeros: the last record first, so that each transaction's first is left.
 fn note_threads(all: [Event; 1024], labels: &[u16], count: usize, threads: &mut [u8])
@@ -33,78 +30,115 @@ fn note_threads(all: [Event; 1024], labels: &[u16], count: usize, threads: &mut 
     }
 }
 
-// Whether transaction a isn't taken and all its other ancestors are.
-fn is_free(work: &[u64], taken: [u64; 8], a: u16) -> bool
-    ensures { λ r. ⌜ r ≡ free (now (work .entry)) taken a ⌝ }
-{
-    if rows::test(&taken, 0, a) {
-        return false;
-    }
-    let mut with = taken;
-    rows::mark(&mut with, 0, a);
-    rows::within(work, a, &with, 0)
-}
-
-// Of the one found so far and a transaction with its thread: the one with the lower thread.
-fn better_of(best: Pick, transaction: u16, thread: u8) -> Pick
-    ensures { λ r. ⌜ r ≡ better best transaction thread ⌝ }
-{
-    match best {
-        Pick::Nothing => Pick::At {
-            transaction,
-            thread,
-        },
-        Pick::At {
-            transaction: _,
-            thread: lowest,
-        } => {
-            if thread < lowest {
-                return Pick::At {
-                    transaction,
-                    thread,
-                };
-            }
-            best
-        }
-    }
-}
-
-// The free transaction with the lowest thread, of n.
-fn find_next(work: &[u64], threads: &[u8], n: u16, taken: [u64; 8]) -> Pick
+// A number above the threads of n transactions.
+fn above_threads(threads: &[u8], n: u16) -> usize
     requires { ⌜ n ≤ length (now threads) ⌝ }
-    ensures { λ r. ⌜ r ≡ pickedFrom (λ a. getD (now (threads .entry)) a 0) Pick.Nothing (keep (free (now (work .entry)) taken) (below n)) ⌝ }
+    ensures { λ r. ⌜ (r ≤ 256) × ((a : ℕ) → a < n → getD (now (threads .entry)) a 0 < r) ⌝ }
 {
-    let mut best = Pick::Nothing;
+    let mut above = 0;
     let mut a = 0;
     while a < n {
-        if is_free(work, taken, a) {
-            best = better_of(best, a, threads[a as usize]);
+        let t = threads[a as usize] as usize;
+        if above <= t {
+            above = t + 1;
         }
         a += 1;
     }
-    best
+    above
 }
 
-// Writes the free transactions one after the other, of n, until none is free.
-fn take_free(work: &[u64], threads: &[u8], n: u16, order: &mut [u16])
-    requires { ⌜ (n ≤ length (now threads)) × (n ≤ length (now order)) ⌝ }
-    ensures { λ _. ⌜ now (order .exit) ≡ over (freeOrder (now (work .entry)) (λ a. getD (now (threads .entry)) a 0) n n (replicate 8 0)) (now (order .entry)) ⌝ }
+// The lowest of n transactions, from a on, that is of thread t and isn't taken; n where there is none.
+fn next_from(threads: &[u8], n: u16, taken: &[u64; 8], t: usize, a: u16) -> u16
+    requires { ⌜ n ≤ length (now threads) ⌝ }
+    ensures { λ r. ⌜ r ≡ nextFrom (λ b. getD (now (threads .entry)) b 0) n (now (taken .entry)) t a ⌝ }
+{
+    let mut b = a;
+    while b < n {
+        if threads[b as usize] as usize == t && !rows::test(taken, 0, b) {
+            return b;
+        }
+        b += 1;
+    }
+    n
+}
+
+// How many ancestors of transaction a aren't taken, a itself included; 0 where a isn't one of n.
+fn count_left(work: &[u64], n: u16, taken: &[u64; 8], a: u16) -> u32
+    ensures { λ r. ⌜ r ≡ leftOf (now (work .entry)) n (now (taken .entry)) a ⌝ }
+{
+    if a < n {
+        return rows::count_beyond(work, a, taken, 0);
+    }
+    0
+}
+
+// For each of m threads its next transaction, and how much is left for that one, where none is taken.
+fn count_all(work: &[u64], threads: &[u8], n: u16, m: usize, nexts: &mut [u16], lefts: &mut [u32])
+    requires { ⌜ (n ≤ length (now threads)) × (m ≤ length (now nexts)) × (m ≤ length (now lefts)) ⌝ }
+    ensures { λ _. ⌜ Counts (now (work .entry)) (λ a. getD (now (threads .entry)) a 0) n m (replicate 8 0) (now (nexts .exit)) (now (lefts .exit)) ⌝ }
+{
+    let none = [0u64; 8];
+    let mut t = 0;
+    while t < m {
+        let a = next_from(threads, n, &none, t, 0);
+        nexts[t] = a;
+        lefts[t] = count_left(work, n, &none, a);
+        t += 1;
+    }
+}
+
+// The lowest of m threads that has only 1 left; m where there is none.
+fn first_ready(lefts: &[u32], m: usize) -> usize
+    requires { ⌜ m ≤ length (now lefts) ⌝ }
+    ensures { λ r. ⌜ r ≡ firstOf (λ t. eqb (getD (now (lefts .entry)) t 0) 1) m (below m) ⌝ }
+{
+    let mut t = 0;
+    while t < m {
+        if lefts[t] == 1 {
+            return t;
+        }
+        t += 1;
+    }
+    m
+}
+
+// Transaction c is taken: one less is left for each of m threads whose next transaction has it as an ancestor.
+fn lower(work: &[u64], nexts: &[u16], m: usize, c: u16, lefts: &mut [u32])
+    requires { ⌜ (m ≤ length (now nexts)) × (m ≤ length (now lefts)) ⌝ }
+    ensures { λ _. ⌜ ((t : ℕ) → t < m →
+        getD (now (lefts .exit)) t 0 ≡ getD (now (lefts .entry)) t 0 - cond (has (now (work .entry)) (getD (now (nexts .entry)) t 0) c) 1 0) ⌝ }
+{
+    let mut t = 0;
+    while t < m {
+        if 0 < lefts[t] && rows::test(work, nexts[t], c) {
+            lefts[t] -= 1;
+        }
+        t += 1;
+    }
+}
+
+// Writes the transactions one after the other, of n and of m threads, until none is ready.
+fn take_ready(work: &[u64], threads: &[u8], n: u16, m: usize, order: &mut [u16])
+    requires { ⌜ (n ≤ 512) × (n ≤ length (now threads)) × (m ≤ 256) × (n ≤ length (now order)) × (4096 ≤ length (now work)) ⌝ }
+    ensures { λ _. ⌜ now (order .exit) ≡ over (countOrder (now (work .entry)) (λ a. getD (now (threads .entry)) a 0) n m n (replicate 8 0)) (now (order .entry)) ⌝ }
 {
     let mut taken = [0u64; 8];
+    let mut nexts = [0u16; 256];
+    let mut lefts = [0u32; 256];
+    count_all(work, threads, n, m, &mut nexts, &mut lefts);
     let mut i = 0;
     while i < n {
-        match find_next(work, threads, n, taken) {
-            Pick::Nothing => {
-                return;
-            }
-            Pick::At {
-                transaction,
-                thread: _,
-            } => {
-                order[i as usize] = transaction;
-                rows::mark(&mut taken, 0, transaction);
-            }
+        let t = first_ready(&lefts, m);
+        if m <= t {
+            return;
         }
+        let c = nexts[t];
+        order[i as usize] = c;
+        rows::mark(&mut taken, 0, c);
+        lower(work, &nexts, m, c, &mut lefts);
+        let d = next_from(threads, n, &taken, t, c + 1);
+        nexts[t] = d;
+        lefts[t] = count_left(work, n, &taken, d);
         i += 1;
     }
 }
@@ -118,13 +152,14 @@ pub fn take_all(
     n: u16,
     order: &mut [u16],
 )
-    requires { ⌜ (count ≤ 1024) × (count ≤ length (now labels)) × (n ≤ 512) × (n ≤ length (now order)) ⌝ }
-    requires { ⌜ ((i : ℕ) → i < count → getD (now labels) i 0 < n) ⌝ }
+    requires { ⌜ (count ≤ 1024) × (count ≤ length (now labels)) × (n ≤ length (now order)) ⌝ }
+    requires { ⌜ Labels count all (now labels) (Done n) ⌝ }
     requires { ⌜ Stands (now work) (edges (held count all (now labels))) × (cyclic (edges (held count all (now labels))) ≡ false) ⌝ }
     ensures { λ _. ⌜ now (order .exit)
         ≡ over (taking n (threadOf (held count all (now (labels .entry)))) (edges (held count all (now (labels .entry)))) n []) (now (order .entry)) ⌝ }
 {
     let mut threads = [0u8; 512];
     note_threads(all, labels, count, &mut threads);
-    take_free(work, &threads, n, order);
+    let m = above_threads(&threads, n);
+    take_ready(work, &threads, n, m, order);
 }

@@ -2,17 +2,21 @@
 use mathlib.Core.Path.{_≡_, refl, sym, ap, ap₂, _∙_, subst}
 use Prim.Native.Nat.{ℕ, zero, suc, _+_, _-_, _*_, _/_, _%_, _^_, _≤_, _<_, min, max}
 use native.Mathlib.Omega.{arith}
-use native.Mathlib.Nat.{one-mul, pow-suc, div-eq-of-lt, zero-div, max-zero, zero-add, suc-add, mul-comm, div-one, div-div-eq-div-mul}
+use native.Mathlib.Nat.{one-mul, pow-suc, div-eq-of-lt, zero-div, max-zero, add-zero, add-suc, div-one, div-div-eq-div-mul}
 use lib.Dec.{T, lit<, eqb}
 use lib.Pow.{shl-exact, shl-shr, pow-add, pow-lt}
-use lib.Bits.{bitOr, or-shr, or-step}
-use mathlib.Core.Bool.{Bool, true, false, cond, _&&_, _||_, and-false}
+use lib.Bits.{bitOr, bitXor, differ, or-shr, or-step, xor-shr, xor-step, or-lt, xor-lt}
+use lib.Count.{ones, ones-step, ones-le}
+use mathlib.Core.Bool.{Bool, true, false, cond, not, _&&_, _||_, and-false}
 use mathlib.Core.List.{List, _++_}
 use native.Mathlib.Decide.{decLt, ℕ-discrete}
 use borrow.Author.Tests.{eq-eqb, ne-eqb, le-leb, lt-leb, eqb-true}
 use lib.ListN.{length, getD, set, take, drop, replicate, length-set, length-append, length-drop, length-replicate, getD-replicate, List·getD-append}
 use lib.Seq.{getD-take, getD-set-same, getD-set-other, drop-set-lt, drop-at}
-use Rattle.rows.specs.Bits.{bitOf, wordAt, has, marked, holdsRow, joinedTo, joined, cleared, withinTo, inside}
+use Rattle.rows.specs.Bits.{bitOf, wordAt, has, marked, holdsRow, joinedTo, joined, cleared, only, beyondTo, beyond}
+use Rattle.trace.specs.Lists.{keep, from, below}
+use Rattle.trace.proofs.Tests.{by}
+use Rattle.trace.proofs.Lists.{keep-true, keep-false, count-split, set-le}
 
 -- ---- bits of numbers
 
@@ -83,6 +87,15 @@ length-marked w a b = simp length-set
 pub rest-marked : (w : List ℕ) (a b : ℕ) → a < 512 → b < 512 → drop 4096 (marked w a b) ≡ drop 4096 w
 unfolding marked
 rest-marked w a b in-a in-b = drop-set-lt 4096 w (wordAt a b) (bitOr (getD w (wordAt a b) 0) (2 ^ (b % 64))) (omega arith)
+
+-- numbers of 64 bits stay such
+pub small-marked : (w : List ℕ) (a b : ℕ) → ((i : ℕ) → getD w i 0 < 2 ^ 64) → (i : ℕ) → getD (marked w a b) i 0 < 2 ^ 64
+unfolding marked
+small-marked w a b small i =
+    let v : ℕ = bitOr (getD w (wordAt a b) 0) (2 ^ (b % 64)) in
+    let fits : v < 2 ^ 64 = or-lt 64 (getD w (wordAt a b) 0) (2 ^ (b % 64)) (small (wordAt a b)) (pow-lt {j = 64} (omega arith)) in
+    let stays : getD (set w (wordAt a b) v) i 0 ≤ 2 ^ 64 - 1 = set-le w (wordAt a b) v (2 ^ 64 - 1) (omega arith) (λ j. omega (arith, small j)) i in
+    omega arith
 
 -- of a row that lies wholly in the numbers
 module _ (w : List ℕ) (a b : ℕ) (in-b : b < 512) (long : a * 8 + 8 ≤ length w) where
@@ -247,117 +260,112 @@ module _ (w : List ℕ) (long : 4096 ≤ length w) where
       (List·getD-append (replicate n z) (drop n w) z (wordAt a b) (omega (arith, length-replicate n z)) ∙ getD-replicate n (wordAt a b) z z i)
       ∙ bit-zero (b % 64)
 
--- ---- each bit of a row is one of another
+-- ---- the bits of a row that another doesn't have
 
-module _ (w : List ℕ) (a : ℕ) (v : List ℕ) (b : ℕ) where
-  pub inside-in : a * 8 + 8 ≤ length w → b * 8 + 8 ≤ length v → inside w a v b ≡ withinTo 8 w a v b
-  unfolding inside holdsRow
-  inside-in p q =
-      ap₂ (λ (s t : Bool). (s && t) && withinTo 8 w a v b) (le-leb (a * 8 + 8) (length w) p) (le-leb (b * 8 + 8) (length v) q)
-
-  pub inside-out-first : length w < a * 8 + 8 → inside w a v b ≡ false
-  unfolding inside holdsRow
-  inside-out-first p = ap (λ (s : Bool). (s && holdsRow v b) && withinTo 8 w a v b) (lt-leb (a * 8 + 8) (length w) p)
-
-  pub inside-out-second : length v < b * 8 + 8 → inside w a v b ≡ false
-  unfolding inside holdsRow
-  inside-out-second p =
-      ap (λ (t : Bool). (holdsRow w a && t) && withinTo 8 w a v b) (lt-leb (b * 8 + 8) (length v) p)
-      ∙ ap (λ (s : Bool). s && withinTo 8 w a v b) (and-false (holdsRow w a))
-
-  -- the numbers at place n of the two rows
-  abbrev of : ℕ → ℕ
-  of n = getD w (a * 8 + n) 0
-
-  abbrev to : ℕ → ℕ
-  to n = getD v (b * 8 + n) 0
-
-  pub within-true : (n : ℕ) → withinTo n w a v b ≡ true → bitOr (of n) (to n) ≡ to n → withinTo (suc n) w a v b ≡ true
-  unfolding withinTo
-  within-true n e f = ap₂ (λ (s t : Bool). s && t) e (eq-eqb (bitOr (of n) (to n)) (to n) f)
-
-  pub within-false : (n : ℕ) → (bitOr (of n) (to n) ≡ to n → ⊥) → withinTo (suc n) w a v b ≡ false
-  unfolding withinTo
-  within-false n f =
-      ap (λ (t : Bool). withinTo n w a v b && t) (ne-eqb (bitOr (of n) (to n)) (to n) f) ∙ and-false (withinTo n w a v b)
-
-  pub within-stays : (n d : ℕ) → withinTo n w a v b ≡ false → withinTo (d + n) w a v b ≡ false
-  unfolding withinTo
-  within-stays n zero e = subst (λ (k : ℕ). withinTo k w a v b ≡ false) (sym (zero-add n)) e
-  within-stays n (suc d) e =
-      ap (λ (k : ℕ). withinTo k w a v b) (suc-add d n)
-      ∙ ap (λ (s : Bool). s && eqb (bitOr (of (d + n)) (to (d + n))) (to (d + n))) (within-stays n d e)
-
--- a bit of two numbers of which the second has all bits of the first
-covers-bit : (x y k : ℕ) → bitOr x y ≡ y → bitOf x k ≡ 1 → bitOf y k ≡ 1
-covers-bit x y k e f = omega (arith, or-bit x y k, ap (λ (z : ℕ). bitOf z k) e)
-
--- the bits above the lowest are those of the half
-half-bit : (x k : ℕ) → bitOf (x / 2) k ≡ bitOf x (suc k)
-half-bit x k =
-    ap (λ (z : ℕ). z % 2)
-    (div-div-eq-div-mul x 2 (2 ^ k) ∙ ap (λ (z : ℕ). x / z) (mul-comm 2 (2 ^ k) ∙ sym (pow-suc 2 k)))
-
--- a number with all bits of another stays as it is where that is joined to it
-bits-cover : (k x y : ℕ) → x < 2 ^ k → ((j : ℕ) → j < k → bitOf x j ≡ 1 → bitOf y j ≡ 1) → bitOr x y ≡ y
-bits-cover zero x y h all = let e : x ≡ 0 = omega arith in ap (λ (z : ℕ). bitOr z y) e
-bits-cover (suc k) x y h all =
-    let low : x % 2 ≡ 1 → y % 2 ≡ 1 = λ e. subst (λ (z : ℕ). z % 2 ≡ 1) (div-one y) (all 0 (omega arith) (subst (λ (z : ℕ). z % 2 ≡ 1) (sym (div-one x)) e)) in
-    let rest : bitOr (x / 2) (y / 2) ≡ y / 2 =
-    bits-cover k (x / 2) (y / 2) (omega (arith, pow-suc 2 k)) (λ j i e. half-bit y j ∙ all (suc j) (omega arith) (sym (half-bit x j) ∙ e)) in
-    let top : max (x % 2) (y % 2) ≡ y % 2 = larger-second (x % 2) (y % 2) (omega arith) low in
-    omega (arith, or-step x y, rest, top)
+-- a bit of those that x has and y doesn't
+only-bit : (x y k : ℕ) → eqb (bitOf (only x y) k) 1 ≡ (eqb (bitOf x k) 1 && not (eqb (bitOf y k) 1))
+only-bit x y k = ap (λ (n : ℕ). eqb n 1) differs ∙ first-only (bitOf x k) (bitOf y k) (omega arith) (omega arith)
   where
-    larger-second : (u v : ℕ) → u < 2 → (u ≡ 1 → v ≡ 1) → max u v ≡ v
-    larger-second zero v p q = omega arith
-    larger-second (suc zero) v p q = let e : v ≡ 1 = q refl in omega arith
-    larger-second (suc (suc u)) v p q = absurd (omega arith)
+    first-only : (u v : ℕ) → u < 2 → v < 2 → eqb (differ (max u v) v) 1 ≡ (eqb u 1 && not (eqb v 1))
+    first-only zero zero p q = refl
+    first-only zero (suc zero) p q = refl
+    first-only zero (suc (suc v)) p q = absurd (omega arith)
+    first-only (suc zero) zero p q = refl
+    first-only (suc zero) (suc zero) p q = refl
+    first-only (suc zero) (suc (suc v)) p q = absurd (omega arith)
+    first-only (suc (suc u)) v p q = absurd (omega arith)
+
+    small : (u v : ℕ) → u < 2 → v < 2 → differ u v < 2
+    small zero v p q = q
+    small (suc zero) zero p q = p
+    small (suc zero) (suc v) p q = omega arith
+    small (suc (suc u)) v p q = absurd (omega arith)
+
+    differs : bitOf (only x y) k ≡ differ (max (bitOf x k) (bitOf y k)) (bitOf y k)
+    differs =
+        let h : bitOf (only x y) k ≡ bitXor (bitOr x y / 2 ^ k) (y / 2 ^ k) % 2 = ap (λ (n : ℕ). n % 2) (xor-shr (bitOr x y) y k) in
+        let lt : differ (bitOf (bitOr x y) k) (bitOf y k) < 2 = small (bitOf (bitOr x y) k) (bitOf y k) (omega arith) (omega arith) in
+        let e : bitXor (bitOr x y / 2 ^ k) (y / 2 ^ k) % 2 ≡ differ (bitOf (bitOr x y) k) (bitOf y k) = omega (arith, xor-step (bitOr x y / 2 ^ k) (y / 2 ^ k), lt) in
+        h ∙ e ∙ ap (λ (n : ℕ). differ n (bitOf y k)) (or-bit x y k)
+
+-- the set bits of a number from s on are counted one by one, whatever else numbers them from o on
+ones-from : (z o : ℕ) (p : ℕ → Bool) (n s : ℕ) → z < 2 ^ (s + n) → ((c : ℕ) → c < s + n → p (o + c) ≡ eqb (bitOf z c) 1)
+    → ones (z / 2 ^ s) ≡ length (keep p (from (o + s) n))
+unfolding ones keep from
+ones-from z o p zero s h is =
+    let e : z / 2 ^ s ≡ 0 = div-eq-of-lt (subst (λ (k : ℕ). z < 2 ^ k) (add-zero s) h) in
+    ap ones e
+ones-from z o p (suc n) s h is =
+    let half : z / 2 ^ s / 2 ≡ z / 2 ^ suc s = div-div-eq-div-mul z (2 ^ s) 2 ∙ ap (λ (k : ℕ). z / k) (sym (pow-suc 2 s)) in
+    let moved : s + suc n ≡ suc s + n = omega arith in
+    let rest : ones (z / 2 ^ suc s) ≡ length (keep p (from (suc (o + s)) n)) =
+    ones-from z o p n (suc s) (subst (λ (k : ℕ). z < 2 ^ k) moved h) (λ c l. is c (omega arith)) ∙ ap (λ (k : ℕ). length (keep p (from k n))) (add-suc o s) in
+    let step : ones (z / 2 ^ s) ≡ bitOf z s + ones (z / 2 ^ suc s) = ones-step (z / 2 ^ s) ∙ ap (λ (k : ℕ). bitOf z s + ones k) half in
+    by (p (o + s))
+    (λ t. omega (arith, step, rest, ap length (keep-true p (o + s) (from (suc (o + s)) n) t), eqb-true (bitOf z s) 1 (sym (is s (omega arith)) ∙ t)))
+    (λ f. omega (arith, step, rest, ap length (keep-false p (o + s) (from (suc (o + s)) n) f), clear (sym (is s (omega arith)) ∙ f)))
+  where
+    clear : eqb (bitOf z s) 1 ≡ false → bitOf z s ≡ 0
+    clear f = go (ℕ-discrete (bitOf z s) 1)
+      where
+        go : Dec (bitOf z s ≡ 1) → bitOf z s ≡ 0
+        go (yes e) = absurd (subst T (sym (eq-eqb (bitOf z s) 1 e) ∙ f) tt)
+        go (no ne) = omega arith
+
+-- column 64 n + c is bit c of number n; the columns of number n begin where those before it end
+column : (n c : ℕ) → c < 64 → ((64 * n + c) / 64 ≡ n) × ((64 * n + c) % 64 ≡ c)
+column n c h = (omega arith, omega arith)
+
+start : (n : ℕ) → 64 * n + 0 ≡ 0 + 64 * n
+start n = omega arith
+
+end : (n : ℕ) → 64 * n + 64 ≡ 64 * suc n
+end n = omega arith
 
 module _ (w : List ℕ) (a : ℕ) (v : List ℕ) (b : ℕ) where
-  -- the number at place n
-  abbrev covered : ℕ → Type 0
-  covered n = bitOr (of w a v b n) (to w a v b n) ≡ to w a v b n
+  pub beyond-in : a * 8 + 8 ≤ length w → b * 8 + 8 ≤ length v → beyond w a v b ≡ beyondTo 8 w a v b
+  unfolding beyond holdsRow
+  beyond-in p q = ap₂ (λ (s t : Bool). cond (s && t) (beyondTo 8 w a v b) 0) (le-leb (a * 8 + 8) (length w) p) (le-leb (b * 8 + 8) (length v) q)
 
-  within-each : (n : ℕ) → withinTo n w a v b ≡ true → (m : ℕ) → m < n → covered m
-  unfolding withinTo
-  within-each zero e m h = absurd (omega arith)
-  within-each (suc n) e m h = go (withinTo n w a v b) refl e (ℕ-discrete m n) (λ f. within-each n f m)
-    where
-      go : (s : Bool) → withinTo n w a v b ≡ s → (s && eqb (bitOr (of w a v b n) (to w a v b n)) (to w a v b n)) ≡ true → Dec (m ≡ n) → (withinTo n w a v b ≡ true → m < n → covered m) → covered m
-      go true f g (yes d) ih = subst (λ (k : ℕ). covered k) (sym d) (eqb-true (bitOr (of w a v b n) (to w a v b n)) (to w a v b n) g)
-      go true f g (no d) ih = ih f (omega arith)
-      go false f g d ih = absurd (subst T (sym g) tt)
+  pub beyond-out-first : length w < a * 8 + 8 → beyond w a v b ≡ 0
+  unfolding beyond holdsRow
+  beyond-out-first p = ap (λ (s : Bool). cond (s && holdsRow v b) (beyondTo 8 w a v b) 0) (lt-leb (a * 8 + 8) (length w) p)
 
-  each-within : (n : ℕ) → ((m : ℕ) → m < n → covered m) → withinTo n w a v b ≡ true
-  unfolding withinTo
-  each-within zero all = refl
-  each-within (suc n) all = within-true w a v b n (each-within n (λ m h. all m (omega arith))) (all n (omega arith))
+  pub beyond-out-second : length v < b * 8 + 8 → beyond w a v b ≡ 0
+  unfolding beyond holdsRow
+  beyond-out-second p =
+      ap (λ (t : Bool). cond (holdsRow w a && t) (beyondTo 8 w a v b) 0) (lt-leb (b * 8 + 8) (length v) p)
+      ∙ ap (λ (s : Bool). cond s (beyondTo 8 w a v b) 0) (and-false (holdsRow w a))
 
-  module _ (long-w : a * 8 + 8 ≤ length w) (long-v : b * 8 + 8 ≤ length v) where
-    -- where a row is within another, each of its bits is one of the other
-    pub inside-all : inside w a v b ≡ true → (c : ℕ) → c < 512 → has w a c ≡ true → has v b c ≡ true
-    unfolding has
-    inside-all e c in-c h =
-        let n : ℕ = c / 64 in
-        let k : ℕ = c % 64 in
-        eq-eqb (bitOf (to w a v b n) k) 1
-        (covers-bit (of w a v b n) (to w a v b n) k
-        (within-each 8 (sym (inside-in w a v b (omega arith) (omega arith)) ∙ e) n (omega arith)) (eqb-true (bitOf (of w a v b n) k) 1 h))
+  -- whether row a of w has column c and row b of v doesn't
+  abbrev pub lacks : ℕ → Bool
+  lacks c = has w a c && not (has v b c)
 
-    -- and where each of its bits is one of the other, it is within; each number has 64 bits
-    pub all-inside : ((i : ℕ) → getD w i 0 < 2 ^ 64) → ((c : ℕ) → c < 512 → has w a c ≡ true → has v b c ≡ true) → inside w a v b ≡ true
-    unfolding has
-    all-inside small all =
-        inside-in w a v b (omega arith) (omega arith)
-        ∙ each-within 8 (λ n h. bits-cover 64 (of w a v b n) (to w a v b n) (small (a * 8 + n)) (λ k i e. bit-at n h k i e))
-      where
-        bit-at : (n : ℕ) → n < 8 → (k : ℕ) → k < 64 → bitOf (of w a v b n) k ≡ 1 → bitOf (to w a v b n) k ≡ 1
-        bit-at n h k i e =
-            let c : ℕ = n * 64 + k in
-            let p : c / 64 ≡ n = omega arith in
-            let q : c % 64 ≡ k = omega arith in
-            let set : has w a c ≡ true = eq-eqb (bitOf (of w a v b (c / 64)) (c % 64)) 1 (ap₂ (λ (m l : ℕ). bitOf (of w a v b m) l) p q ∙ e) in
-            ap₂ (λ (m l : ℕ). bitOf (to w a v b m) l) (sym p) (sym q) ∙ eqb-true (bitOf (to w a v b (c / 64)) (c % 64)) 1 (all c (omega arith) set)
+  -- where each number has 64 bits, they are counted column by column
+  module _ (small-w : (i : ℕ) → getD w i 0 < 2 ^ 64) (small-v : (i : ℕ) → getD v i 0 < 2 ^ 64) where
+    only-lt : (n : ℕ) → only (getD w (a * 8 + n) 0) (getD v (b * 8 + n) 0) < 2 ^ 64
+    only-lt n = let x = getD w (a * 8 + n) 0 in let y = getD v (b * 8 + n) 0 in xor-lt 64 (bitOr x y) y (or-lt 64 x y (small-w (a * 8 + n)) (small-v (b * 8 + n))) (small-v (b * 8 + n))
+
+    counted-to : (n : ℕ) → beyondTo n w a v b ≡ length (keep lacks (from 0 (64 * n)))
+    unfolding beyondTo keep from has
+    counted-to zero = refl
+    counted-to (suc n) =
+        let z : ℕ = only (getD w (a * 8 + n) 0) (getD v (b * 8 + n) 0) in
+        let is : (c : ℕ) → c < 64 → lacks (64 * n + c) ≡ eqb (bitOf z c) 1 = λ c h.
+        ap₂ (λ (m l : ℕ). eqb (bitOf (getD w (a * 8 + m) 0) l) 1 && not (eqb (bitOf (getD v (b * 8 + m) 0) l) 1)) (column n c h .0) (column n c h .1)
+        ∙ sym (only-bit (getD w (a * 8 + n) 0) (getD v (b * 8 + n) 0) c) in
+        let word : ones (z / 2 ^ 0) ≡ length (keep lacks (from (64 * n + 0) 64)) = ones-from z (64 * n) lacks 64 0 (only-lt n) is in
+        ap₂ (λ (k l : ℕ). k + l) (counted-to n) (ap ones (sym (div-one z)) ∙ word ∙ ap (λ (k : ℕ). length (keep lacks (from k 64))) (start n))
+        ∙ sym (count-split lacks 0 (64 * n) 64) ∙ ap (λ (k : ℕ). length (keep lacks (from 0 k))) (end n)
+
+    pub beyond-count : a * 8 + 8 ≤ length w → b * 8 + 8 ≤ length v → beyond w a v b ≡ length (keep lacks (below 512))
+    beyond-count p q = beyond-in p q ∙ counted-to 8
+
+    -- the first n numbers have at most 64 bits each
+    pub beyond-le : (n : ℕ) → beyondTo n w a v b ≤ 64 * n
+    unfolding beyondTo
+    beyond-le zero = omega arith
+    beyond-le (suc n) = omega (arith, beyond-le n, ones-le 64 (only (getD w (a * 8 + n) 0) (getD v (b * 8 + n) 0)) (only-lt n))
 
 -- ---- the square alone
 

@@ -1,9 +1,10 @@
 -- A square of 512 by 512 bits in 4,096 numbers of 64 bits: row a is the eight numbers from 8 a on, and its column b is bit b % 64
 -- of the one at b / 64. Past the end of the numbers every bit counts as 0.
 use Prim.Native.Nat.{ℕ, zero, suc, _+_, _*_, _/_, _%_, _^_, min}
-use mathlib.Core.Bool.{Bool, true, cond, _&&_}
+use mathlib.Core.Bool.{Bool, cond, _&&_}
 use mathlib.Core.List.{List, _++_}
-use lib.Bits.{bitOr}
+use lib.Bits.{bitOr, bitXor}
+use lib.Count.{ones}
 use lib.Dec.{eqb, leb}
 use lib.ListN.{length, getD, set, replicate, drop}
 
@@ -42,12 +43,15 @@ joined w x y = cond (holdsRow w x && holdsRow w y) (joinedTo 8 w x y) w
 unfoldable pub cleared : List ℕ → List ℕ
 cleared w = replicate (min 4096 (length w)) 0 ++ drop 4096 w
 
--- whether each bit of the first n numbers of row a of w is one of row b of v
-unfoldable pub withinTo : ℕ → List ℕ → ℕ → List ℕ → ℕ → Bool
-withinTo zero w a v b = true
-withinTo (suc n) w a v b =
-    withinTo n w a v b && eqb (bitOr (getD w (a * 8 + n) 0) (getD v (b * 8 + n) 0)) (getD v (b * 8 + n) 0)
+-- the bits of x that y doesn't have
+abbrev pub only : ℕ → ℕ → ℕ
+only x y = bitXor (bitOr x y) y
 
--- whether each bit of row a of w is one of row b of v; no, unless both lie wholly in their numbers
-unfoldable pub inside : List ℕ → ℕ → List ℕ → ℕ → Bool
-inside w a v b = (holdsRow w a && holdsRow v b) && withinTo 8 w a v b
+-- how many bits of the first n numbers of row a of w aren't bits of row b of v
+unfoldable pub beyondTo : ℕ → List ℕ → ℕ → List ℕ → ℕ → ℕ
+beyondTo zero w a v b = 0
+beyondTo (suc n) w a v b = beyondTo n w a v b + ones (only (getD w (a * 8 + n) 0) (getD v (b * 8 + n) 0))
+
+-- how many bits of row a of w aren't bits of row b of v; 0, unless both rows lie wholly in their numbers
+unfoldable pub beyond : List ℕ → ℕ → List ℕ → ℕ → ℕ
+beyond w a v b = cond (holdsRow w a && holdsRow v b) (beyondTo 8 w a v b) 0

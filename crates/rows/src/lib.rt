@@ -1,6 +1,6 @@
 // Rows of bits in a lent slice of 64-bit numbers: row a is the eight numbers from 8 a on.
 ghost use mathlib.Core.Path.{_≡_};
-ghost use Rattle.rows.specs.Bits.{has, marked, joined, cleared, inside};
+ghost use Rattle.rows.specs.Bits.{has, marked, joined, cleared, beyond};
 
 // Whether the bit at row a and column b is set.
 pub fn test(w: &[u64], a: u16, b: u16) -> bool
@@ -54,25 +54,24 @@ pub fn clear(w: &mut [u64])
     }
 }
 
-// Whether each bit of row a of w is one of row b of v.
-pub fn within(w: &[u64], a: u16, v: &[u64], b: u16) -> bool
-    ensures { λ r. ⌜ r ≡ inside (now (w .entry)) a (now (v .entry)) b ⌝ }
+// How many bits of row a of w aren't bits of row b of v; 0, unless both rows lie wholly in their numbers.
+pub fn count_beyond(w: &[u64], a: u16, v: &[u64], b: u16) -> u32
+    ensures { λ r. ⌜ r ≡ beyond (now (w .entry)) a (now (v .entry)) b ⌝ }
 {
     let of = a as usize * 8;
     let to = b as usize * 8;
     if w.len() < of + 8 {
-        return false;
+        return 0;
     }
     if v.len() < to + 8 {
-        return false;
+        return 0;
     }
+    let mut count = 0;
     let mut k = 0;
     while k < 8 {
         let y = v[to + k];
-        if w[of + k] | y != y {
-            return false;
-        }
+        count += u64::count_ones((w[of + k] | y) ^ y);
         k += 1;
     }
-    true
+    count
 }

@@ -7,7 +7,7 @@ use mathlib.Core.Path.{_≡_, refl, sym, ap, ap₂, _∙_, subst}
 use mathlib.Core.Logic.{_≢_}
 use mathlib.Core.Bool.{Bool, true, false, _&&_, _||_}
 use mathlib.Core.List.{List, [], _∷_, _++_, map, append-assoc}
-use lib.ListN.{length, getD, take, drop}
+use lib.ListN.{length, getD, set, take, drop}
 use lib.Seq.{sets, sets-eq}
 use lib.Dec.{T, eqb, eqb→eq, eqb-refl}
 use Rattle.trace.specs.Lists.{someOf, allOf, keep, firstOf, over, member, from, below, each}
@@ -304,6 +304,13 @@ module _ {A : Type 0} (p : A → Bool) (d : A) where
   first-among x (y ∷ l) m t = by (p y)
       (λ e. subst (λ z. Among z (y ∷ l)) (sym (first-true y l e)) Among.top)
       (λ e. subst (λ z. Among z (y ∷ l)) (sym (first-false y l e)) (Among.deeper (first-among x l (among-cons m (λ q. absurd (subst T (ap p q ∙ e) t)) (λ n. n)) t)))
+  -- it passes, where it isn't the default
+  pub first-holds : (l : List A) → (firstOf p d l ≡ d → ⊥) → T (p (firstOf p d l))
+  unfolding firstOf
+  first-holds [] h = absurd (h refl)
+  first-holds (x ∷ l) h = by (p x)
+      (λ e. subst (λ z. T (p z)) (sym (first-true x l e)) (T-of e))
+      (λ e. subst (λ z. T (p z)) (sym (first-false x l e)) (first-holds l (λ q. h (first-false x l e ∙ q))))
 
 -- of numbers in order, it is the lowest
 pub first-least : (p : ℕ → Bool) (d s n x : ℕ) → Among x (from s n) → T (p x) → firstOf p d (from s n) ≤ x
@@ -383,6 +390,45 @@ pub from-none : (b n : ℕ) → n ≤ b → from b (n - b) ≡ []
 unfolding from
 from-none b n h = let e : n - b ≡ 0 = omega arith in ap (from b) e
 
+-- numbers before a that don't pass are passed over
+pub first-skip : (p : ℕ → Bool) (d n a : ℕ) → a ≤ n → ((b : ℕ) → b < a → p b ≡ false) → firstOf p d (from 0 (n - 0)) ≡ firstOf p d (from a (n - a))
+first-skip p d n zero h none = refl
+first-skip p d n (suc a) h none = first-skip p d n a (omega arith) (λ b k. none b (omega arith))
+    ∙ ap (firstOf p d) (from-step a n h) ∙ first-false p d a (from (a + 1) (n - (a + 1))) (none a (omega arith))
+    ∙ ap (λ k. firstOf p d (from k (n - k))) (add-one a)
+
+-- ---- how many of the numbers from s on pass a test
+
+-- those of the first m and those of the next n
+pub count-split : (p : ℕ → Bool) (s m n : ℕ) → length (keep p (from s (m + n))) ≡ length (keep p (from s m)) + length (keep p (from (s + m) n))
+unfolding keep from
+count-split p s zero n = ap (λ k. length (keep p (from s k))) (zero-add n) ∙ ap (λ k. length (keep p (from k n))) (sym (add-zero s)) ∙ sym (zero-add (length (keep p (from (s + 0) n))))
+count-split p s (suc m) n =
+    let more : from s (suc m + n) ≡ s ∷ from (suc s) (m + n) = ap (from s) (suc-add m n) in
+    let rest : length (keep p (from (suc s) (m + n))) ≡ length (keep p (from (suc s) m)) + length (keep p (from (s + suc m) n)) =
+    count-split p (suc s) m n ∙ ap (λ k. length (keep p (from (suc s) m)) + length (keep p (from k n))) (suc-add s m ∙ sym (add-suc s m)) in
+    ap (λ l. length (keep p l)) more ∙ by (p s)
+    (λ e. omega (arith, ap length (keep-true p s (from (suc s) (m + n)) e), ap length (keep-true p s (from (suc s) m) e), rest))
+    (λ e. omega (arith, ap length (keep-false p s (from (suc s) (m + n)) e), ap length (keep-false p s (from (suc s) m) e), rest))
+
+-- one more passes p than q, where c alone passes p and not q, and else they agree
+pub count-less : (p q : ℕ → Bool) (c s n : ℕ) → s ≤ c → c < s + n → p c ≡ true → q c ≡ false → ((b : ℕ) → b < s + n → (b ≡ c → ⊥) → p b ≡ q b)
+    → length (keep p (from s n)) ≡ suc (length (keep q (from s n)))
+unfolding from
+count-less p q c s zero lo hi t f same = absurd (omega arith)
+count-less p q c s (suc n) lo hi t f same = by-same s c
+    (λ e. let rest : keep p (from (suc s) n) ≡ keep q (from (suc s) n) =
+    keep-same p q (from (suc s) n) (λ b m. same b (omega (arith, from-bound (suc s) n b m)) (λ z. absurd (omega (arith, from-le (suc s) n b m)))) in
+    ap length (keep-true p s (from (suc s) n) (ap p e ∙ t)) ∙ ap (λ l. suc (length l)) rest ∙ sym (ap (λ l. suc (length l)) (keep-false q s (from (suc s) n) (ap q e ∙ f))))
+    (λ d. let rest : length (keep p (from (suc s) n)) ≡ suc (length (keep q (from (suc s) n))) =
+    count-less p q c (suc s) n (apart d) (omega arith) t f (λ b h. same b (omega arith)) in
+    by (p s)
+    (λ e. omega (arith, ap length (keep-true p s (from (suc s) n) e), ap length (keep-true q s (from (suc s) n) (sym (same s (omega arith) d) ∙ e)), rest))
+    (λ e. omega (arith, ap length (keep-false p s (from (suc s) n) e), ap length (keep-false q s (from (suc s) n) (sym (same s (omega arith) d) ∙ e)), rest)))
+  where
+    apart : (s ≡ c → ⊥) → suc s ≤ c
+    apart d = omega arith
+
 -- ---- lists through a map, and their beginnings
 
 module _ {A B : Type 0} (f : A → B) where
@@ -423,6 +469,14 @@ before-take (suc k) x y (z ∷ l) (Before.under b) = Before.under (before-take k
 pub sets-over : {A : Type 0} (new old : List A) → length new ≤ length old → sets old 0 new ≡ over new old
 unfolding over
 sets-over new old h = sets-eq new old 0 (omega arith) ∙ ap (λ k. new ++ drop k old) (zero-add (length new))
+
+-- numbers that are at most m stay so, where one that is so is stored
+pub set-le : (l : List ℕ) (i v m : ℕ) → v ≤ m → ((j : ℕ) → getD l j 0 ≤ m) → (j : ℕ) → getD (set l i v) j 0 ≤ m
+set-le [] i v m hv h j = h j
+set-le (x ∷ l) zero v m hv h zero = hv
+set-le (x ∷ l) zero v m hv h (suc j) = h (suc j)
+set-le (x ∷ l) (suc i) v m hv h zero = h zero
+set-le (x ∷ l) (suc i) v m hv h (suc j) = set-le l i v m hv (λ k. h (suc k)) j
 
 -- ---- what holds of each of a list
 

@@ -15,7 +15,7 @@ take-all-requires : tie.Need-take-all-requires
 take-all-requires c κs =
     let s = c .before .before .before .before .before in
     let zero : s .args .prefix ≡ 0 = c .before .if1 .taken in
-    ((omega arith, omega arith, omega arith, omega arith), (labels-below (s .args .count) (s .args .all) (s .args .labels .now) (s .args .n) (s .pre .1 .0), (s .pre .1 .1 .stands zero, s .pre .1 .1 .none zero)))
+    ((omega arith, omega arith, omega arith), (s .pre .1 .0, (s .pre .1 .1 .stands zero, s .pre .1 .1 .none zero)))
 
 same-length : tie.Need-same-length
 same-length c = search needs
