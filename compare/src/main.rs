@@ -15,6 +15,7 @@ mod shrink;
 mod small;
 mod swapped;
 mod tally;
+mod texts;
 
 use std::process::ExitCode;
 

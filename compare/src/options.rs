@@ -1,11 +1,13 @@
 //! What is asked for on the command line.
 
 const USAGE: &str =
-    "usage: compare [--count N] [--seed S] [--swaps N] [--program N] [--small N] [--fixed N]
+    "usage: compare [--count N] [--seed S] [--swaps N] [--program N] [--text N] [--small N] [--fixed N]
   --count N     random recordings through the library (150000)
   --seed S      the seed of everything random (1)
   --swaps N     small recordings held against every trace that swaps reach (5000)
   --program N   random recordings through target/bin/judge (300); 0: the program is not run
+  --text N      random recordings, and random texts, through target/bin/to_text and from_text (300);
+                0: the programs are not run
   --small N     all small histories (1); 2, 3, ..: longer ones; 0: none
   --fixed N     the fixed recordings (1); 0: none";
 
@@ -14,14 +16,26 @@ pub struct Options {
     pub seed: u64,
     pub swaps: u64,
     pub program: u64,
+    pub text: u64,
     pub small: usize,
     pub fixed: u64,
 }
 
 impl Options {
+    fn usual() -> Options {
+        Options {
+            count: 150_000,
+            seed: 1,
+            swaps: 5000,
+            program: 300,
+            text: 300,
+            small: 1,
+            fixed: 1,
+        }
+    }
+
     pub fn read(mut words: impl Iterator<Item = String>) -> Result<Options, String> {
-        let mut options =
-            Options { count: 150_000, seed: 1, swaps: 5000, program: 300, small: 1, fixed: 1 };
+        let mut options = Options::usual();
         while let Some(word) = words.next() {
             let number = words.next().and_then(|n| n.parse::<u64>().ok());
             let Some(number) = number else { return Err(USAGE.to_string()) };
@@ -30,6 +44,7 @@ impl Options {
                 "--seed" => options.seed = number,
                 "--swaps" => options.swaps = number,
                 "--program" => options.program = number,
+                "--text" => options.text = number,
                 "--small" => options.small = number as usize,
                 "--fixed" => options.fixed = number,
                 _ => return Err(USAGE.to_string()),

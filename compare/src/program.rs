@@ -1,4 +1,4 @@
-//! The program `judge`, run as a process of its own.
+//! The programs, each run as a process of its own.
 
 use std::io::{self, Read, Write};
 use std::path::{Path, PathBuf};
@@ -6,28 +6,42 @@ use std::process::{Child, Command, Stdio};
 use std::thread::sleep;
 use std::time::Duration;
 
-/// How the program is started on this machine.
+/// How a program is started on this machine, and what the reference says that it prints.
 pub struct Program {
+    name: &'static str,
     words: Vec<PathBuf>,
+    expected: fn(&[u8]) -> Vec<u8>,
 }
 
 impl Program {
-    /// Finds target/bin/judge and a way to run it: by itself, by the kit's loader, or, on a
-    /// processor other than x86-64, by the kit's emulator.
-    pub fn find() -> Result<Program, String> {
-        let path = Path::new(env!("CARGO_MANIFEST_DIR")).join("../target/bin/judge");
+    pub fn judge() -> Result<Program, String> {
+        Program::find("judge", |input| reference::report(input).into_bytes())
+    }
+
+    pub fn to_text() -> Result<Program, String> {
+        Program::find("to_text", reference::text::to_text)
+    }
+
+    pub fn from_text() -> Result<Program, String> {
+        Program::find("from_text", reference::text::from_text)
+    }
+
+    /// Finds the program in target/bin and a way to run it: by itself, by the kit's loader, or, on
+    /// a processor other than x86-64, by the kit's emulator.
+    fn find(name: &'static str, expected: fn(&[u8]) -> Vec<u8>) -> Result<Program, String> {
+        let path = Path::new(env!("CARGO_MANIFEST_DIR")).join("../target/bin").join(name);
         if !path.exists() {
-            return Err("target/bin/judge is not there: make it by `rt check judge`".to_string());
+            return Err(format!("target/bin/{name} is not there: make it by `rt check {name}`"));
         }
-        let by_itself = Program { words: vec![path.clone()] };
+        let by_itself = Program { name, words: vec![path.clone()], expected };
         if by_itself.starts() {
             return Ok(by_itself);
         }
-        let by_the_kit = Program { words: words_of_the_kit(path)? };
+        let by_the_kit = Program { name, words: words_of_the_kit(path)?, expected };
         if by_the_kit.starts() {
             return Ok(by_the_kit);
         }
-        Err("target/bin/judge does not start, by itself or by the kit's loader".to_string())
+        Err(format!("target/bin/{name} does not start, by itself or by the kit's loader"))
     }
 
     fn starts(&self) -> bool {
@@ -44,39 +58,50 @@ impl Program {
     }
 
     /// What it prints for this standard input, which comes in so many pieces.
-    pub fn printed(&self, input: &[u8], pieces: usize) -> io::Result<String> {
+    pub fn printed(&self, input: &[u8], pieces: usize) -> io::Result<Vec<u8>> {
         let mut child = self.spawn()?;
         if let Some(mut pipe) = child.stdin.take() {
             for (place, piece) in input.chunks((input.len() / pieces).max(1)).enumerate() {
                 if place > 0 {
                     sleep(Duration::from_millis(2));
                 }
-                // It stops reading at 8,200 bytes, and then the pipe may be shut.
+                // It stops reading at its limit, and then the pipe may be shut.
                 if pipe.write_all(piece).is_err() {
                     break;
                 }
             }
         }
-        let mut text = Vec::new();
+        let mut printed = Vec::new();
         if let Some(mut pipe) = child.stdout.take() {
-            pipe.read_to_end(&mut text)?;
+            pipe.read_to_end(&mut printed)?;
         }
         let status = child.wait()?;
         if !status.success() {
-            return Err(io::Error::other(format!("judge ended with {status}")));
+            return Err(io::Error::other(format!("it ended with {status}")));
         }
-        Ok(String::from_utf8_lossy(&text).into_owned())
+        Ok(printed)
     }
 
     /// What it and the reference differ in, in words.
     pub fn difference(&self, input: &[u8], pieces: usize) -> Option<String> {
-        let expected = reference::report(input);
+        let expected = (self.expected)(input);
+        let name = self.name;
         match self.printed(input, pieces) {
             Ok(printed) if printed == expected => None,
-            Ok(printed) => Some(format!("judge prints:\n{printed}\nreference prints:\n{expected}")),
-            Err(error) => Some(format!("judge: {error}")),
+            Ok(printed) => Some(format!(
+                "{name} prints:\n{}\nreference prints:\n{}",
+                shown(&printed),
+                shown(&expected)
+            )),
+            Err(error) => Some(format!("{name}: {error}")),
         }
     }
+}
+
+/// Lines as they are, with every byte that no line of text has written out.
+pub fn shown(bytes: &[u8]) -> String {
+    let lines = bytes.split_inclusive(|byte| *byte == b'\n');
+    lines.map(|line| format!("  {}\n", line.escape_ascii())).collect()
 }
 
 /// The kit is found from `rt doc`, which names a page two folders below its root.

@@ -7,12 +7,12 @@ use reference::words::words_of_bytes;
 use crate::case::Case;
 use crate::numbers::Numbers;
 use crate::options::Options;
-use crate::program::Program;
+use crate::program::{shown, Program};
 use crate::shrink::shrink;
 use crate::small::alphabets;
 use crate::swapped::{outcome, Outcome};
 use crate::tally::Tally;
-use crate::{fixed, recordings, regressions};
+use crate::{fixed, recordings, regressions, texts};
 
 /// After so many failures a run stops: the first ones say enough.
 const MOST_FAILURES: u64 = 5;
@@ -45,6 +45,10 @@ pub fn run(options: &Options) -> u64 {
     run.phase("recordings and all their swaps", |run| run.swaps(options.swaps, options.seed));
     if options.program > 0 {
         run.phase("runs of the program", |run| run.program(options.program, options.seed));
+    }
+    if options.text > 0 {
+        run.phase("runs of to_text", |run| run.to_text(options.text, options.seed));
+        run.phase("runs of from_text", |run| run.from_text(options.text, options.seed));
     }
     run.tally.print();
     // A run of full size has to have met every refusal at every kind of record.
@@ -119,19 +123,53 @@ impl Run {
     }
 
     fn program(&mut self, count: u64, seed: u64) {
-        let program = match Program::find() {
-            Ok(program) => program,
-            Err(said) => {
-                println!("{said}");
-                self.failed += 1;
+        let Some(program) = self.found(Program::judge()) else { return };
+        let mut numbers = Numbers::from_seed(seed.rotate_left(32));
+        let mut inputs = kept_and_fixed();
+        inputs.extend((0..count).map(|_| recordings::any(&mut numbers)));
+        self.on_all(&program, inputs);
+    }
+
+    fn to_text(&mut self, count: u64, seed: u64) {
+        let Some(program) = self.found(Program::to_text()) else { return };
+        let mut numbers = Numbers::from_seed(seed.rotate_left(16));
+        let mut inputs = kept_and_fixed();
+        inputs.extend(texts::records());
+        inputs.extend((0..count).map(|_| recordings::any(&mut numbers)));
+        inputs.extend((0..count).map(|_| texts::any_records(&mut numbers)));
+        self.on_all(&program, inputs);
+    }
+
+    fn from_text(&mut self, count: u64, seed: u64) {
+        let Some(program) = self.found(Program::from_text()) else { return };
+        let mut numbers = Numbers::from_seed(seed.rotate_left(48));
+        let mut inputs = texts::fixed();
+        inputs.extend((0..count).map(|_| texts::any(&mut numbers)));
+        for (place, input) in inputs.into_iter().enumerate() {
+            let pieces = if place % 8 == 0 { 3 } else { 1 };
+            if self.failed >= MOST_FAILURES {
                 return;
             }
-        };
-        let mut numbers = Numbers::from_seed(seed.rotate_left(32));
-        let kept = regressions::kept().expect("the kept cases can be read");
-        let mut inputs: Vec<Vec<u8>> = kept.into_iter().map(|(_, case)| case.input).collect();
-        inputs.extend(fixed::recordings());
-        inputs.extend((0..count).map(|_| recordings::any(&mut numbers)));
+            match program.difference(&input, pieces) {
+                None => self.passed += 1,
+                Some(said) => {
+                    self.failed += 1;
+                    println!("failed on the text\n{}{said}", shown(&input));
+                }
+            }
+        }
+    }
+
+    /// The program; one that is missing is a failure.
+    fn found(&mut self, program: Result<Program, String>) -> Option<Program> {
+        if let Err(said) = &program {
+            println!("{said}");
+            self.failed += 1;
+        }
+        program.ok()
+    }
+
+    fn on_all(&mut self, program: &Program, inputs: Vec<Vec<u8>>) {
         for (place, input) in inputs.into_iter().enumerate() {
             // Now and then the input comes in pieces, as a pipe may give it.
             let pieces = if place % 8 == 0 { 3 } else { 1 };
@@ -155,6 +193,12 @@ impl Run {
         let small = shrink(case, &|candidate| differs(candidate).is_some());
         show(&small, differs);
     }
+}
+
+fn kept_and_fixed() -> Vec<Vec<u8>> {
+    let kept = regressions::kept().expect("the kept cases can be read");
+    let kept = kept.into_iter().map(|(_, case)| case.input);
+    kept.chain(fixed::recordings()).collect()
 }
 
 fn swaps_differ(case: &Case) -> Option<String> {
