@@ -98,10 +98,12 @@ impl Program {
     }
 }
 
-/// Lines as they are, with every byte that no line of text has written out.
+/// The first lines, with every byte that no line of text has written out.
 pub fn shown(bytes: &[u8]) -> String {
-    let lines = bytes.split_inclusive(|byte| *byte == b'\n');
-    lines.map(|line| format!("  {}\n", line.escape_ascii())).collect()
+    let shown = &bytes[..bytes.len().min(1000)];
+    let lines = shown.split_inclusive(|byte| *byte == b'\n');
+    let text: String = lines.map(|line| format!("  {}\n", line.escape_ascii())).collect();
+    format!("{text}  ({} bytes in all)\n", bytes.len())
 }
 
 /// The kit is found from `rt doc`, which names a page two folders below its root.

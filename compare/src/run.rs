@@ -47,8 +47,8 @@ pub fn run(options: &Options) -> u64 {
         run.phase("runs of the program", |run| run.program(options.program, options.seed));
     }
     if options.text > 0 {
-        run.phase("runs of to_text", |run| run.to_text(options.text, options.seed));
-        run.phase("runs of from_text", |run| run.from_text(options.text, options.seed));
+        run.phase("runs of to_text", |run| run.texts_written(options.text, options.seed));
+        run.phase("runs of from_text", |run| run.texts_read(options.text, options.seed));
     }
     run.tally.print();
     // A run of full size has to have met every refusal at every kind of record.
@@ -130,7 +130,7 @@ impl Run {
         self.on_all(&program, inputs);
     }
 
-    fn to_text(&mut self, count: u64, seed: u64) {
+    fn texts_written(&mut self, count: u64, seed: u64) {
         let Some(program) = self.found(Program::to_text()) else { return };
         let mut numbers = Numbers::from_seed(seed.rotate_left(16));
         let mut inputs = kept_and_fixed();
@@ -140,7 +140,7 @@ impl Run {
         self.on_all(&program, inputs);
     }
 
-    fn from_text(&mut self, count: u64, seed: u64) {
+    fn texts_read(&mut self, count: u64, seed: u64) {
         let Some(program) = self.found(Program::from_text()) else { return };
         let mut numbers = Numbers::from_seed(seed.rotate_left(48));
         let mut inputs = texts::fixed();
