@@ -2,6 +2,7 @@
 
 mod case;
 mod damage;
+mod edges;
 mod fixed;
 mod histories;
 mod numbers;

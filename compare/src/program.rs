@@ -6,16 +6,23 @@ use std::process::{Child, Command, Stdio};
 use std::thread::sleep;
 use std::time::Duration;
 
-/// How a program is started on this machine, and what the reference says that it prints.
+/// What a program has to print for a standard input.
+type Expected = fn(&[u8]) -> Vec<u8>;
+
+/// How the program is started on this machine, and what it is held to.
 pub struct Program {
     name: &'static str,
     words: Vec<PathBuf>,
-    expected: fn(&[u8]) -> Vec<u8>,
+    expected: Expected,
 }
 
 impl Program {
     pub fn judge() -> Result<Program, String> {
         Program::find("judge", |input| reference::report(input).into_bytes())
+    }
+
+    pub fn why() -> Result<Program, String> {
+        Program::find("why", |input| reference::why::report(input).into_bytes())
     }
 
     pub fn to_text() -> Result<Program, String> {
@@ -28,7 +35,7 @@ impl Program {
 
     /// Finds the program in target/bin and a way to run it: by itself, by the kit's loader, or, on
     /// a processor other than x86-64, by the kit's emulator.
-    fn find(name: &'static str, expected: fn(&[u8]) -> Vec<u8>) -> Result<Program, String> {
+    fn find(name: &'static str, expected: Expected) -> Result<Program, String> {
         let path = Path::new(env!("CARGO_MANIFEST_DIR")).join("../target/bin").join(name);
         if !path.exists() {
             return Err(format!("target/bin/{name} is not there: make it by `rt check {name}`"));

@@ -1,6 +1,7 @@
 //! One random recording after the other: mostly short, some long.
 
 use reference::record::{encode_all, Event};
+use reference::{judge, Answer, WORK_AREA};
 
 use crate::damage::{damaged, refused_by};
 use crate::histories::{possible, stirred, with_marks_left_out, Habits};
@@ -21,6 +22,17 @@ pub fn any(numbers: &mut Numbers) -> Vec<u8> {
         0..=19 => damaged(&events, numbers),
         20..=34 => refused_by(5 + numbers.below(8) as u8, &events, numbers),
         _ => encode_all(&events),
+    }
+}
+
+/// A recording that the reference calls a violation.
+pub fn violation(numbers: &mut Numbers) -> Vec<u8> {
+    loop {
+        let input = any(numbers);
+        let (mut out, mut work) = (vec![0; input.len()], vec![0; WORK_AREA]);
+        if let Answer::Violation { .. } = judge(&input, &mut out, &mut work) {
+            return input;
+        }
     }
 }
 

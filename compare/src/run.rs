@@ -12,7 +12,7 @@ use crate::shrink::shrink;
 use crate::small::alphabets;
 use crate::swapped::{outcome, Outcome};
 use crate::tally::Tally;
-use crate::{fixed, recordings, regressions, texts};
+use crate::{edges, fixed, recordings, regressions, texts};
 
 /// After so many failures a run stops: the first ones say enough.
 const MOST_FAILURES: u64 = 5;
@@ -45,6 +45,9 @@ pub fn run(options: &Options) -> u64 {
     run.phase("recordings and all their swaps", |run| run.swaps(options.swaps, options.seed));
     if options.program > 0 {
         run.phase("runs of the program", |run| run.program(options.program, options.seed));
+    }
+    if options.why > 0 {
+        run.phase("runs of the program why", |run| run.why(options.why, options.seed));
     }
     if options.text > 0 {
         run.phase("runs of to_text", |run| run.texts_written(options.text, options.seed));
@@ -123,21 +126,29 @@ impl Run {
     }
 
     fn program(&mut self, count: u64, seed: u64) {
-        let Some(program) = self.found(Program::judge()) else { return };
         let mut numbers = Numbers::from_seed(seed.rotate_left(32));
         let mut inputs = kept_and_fixed();
         inputs.extend((0..count).map(|_| recordings::any(&mut numbers)));
-        self.on_all(&program, inputs);
+        self.runs(Program::judge(), inputs);
+    }
+
+    fn why(&mut self, count: u64, seed: u64) {
+        let mut numbers = Numbers::from_seed(!seed.rotate_left(32));
+        let mut inputs = kept_and_fixed();
+        inputs.extend(edges::recordings());
+        inputs.extend((0..count).map(|_| recordings::violation(&mut numbers)));
+        inputs.extend((0..count).map(|_| recordings::any(&mut numbers)));
+        edges::print(&inputs);
+        self.runs(Program::why(), inputs);
     }
 
     fn texts_written(&mut self, count: u64, seed: u64) {
-        let Some(program) = self.found(Program::to_text()) else { return };
         let mut numbers = Numbers::from_seed(seed.rotate_left(16));
         let mut inputs = kept_and_fixed();
         inputs.extend(texts::records());
         inputs.extend((0..count).map(|_| recordings::any(&mut numbers)));
         inputs.extend((0..count).map(|_| texts::any_records(&mut numbers)));
-        self.on_all(&program, inputs);
+        self.runs(Program::to_text(), inputs);
     }
 
     fn texts_read(&mut self, count: u64, seed: u64) {
@@ -160,7 +171,7 @@ impl Run {
         }
     }
 
-    /// The program; one that is missing is a failure.
+    /// The program; one that isn't there is a failure.
     fn found(&mut self, program: Result<Program, String>) -> Option<Program> {
         if let Err(said) = &program {
             println!("{said}");
@@ -169,7 +180,9 @@ impl Run {
         program.ok()
     }
 
-    fn on_all(&mut self, program: &Program, inputs: Vec<Vec<u8>>) {
+    /// Runs the program on each.
+    fn runs(&mut self, found: Result<Program, String>, inputs: Vec<Vec<u8>>) {
+        let Some(program) = self.found(found) else { return };
         for (place, input) in inputs.into_iter().enumerate() {
             // Now and then the input comes in pieces, as a pipe may give it.
             let pieces = if place % 8 == 0 { 3 } else { 1 };
@@ -197,8 +210,9 @@ impl Run {
 
 fn kept_and_fixed() -> Vec<Vec<u8>> {
     let kept = regressions::kept().expect("the kept cases can be read");
-    let kept = kept.into_iter().map(|(_, case)| case.input);
-    kept.chain(fixed::recordings()).collect()
+    let mut inputs: Vec<Vec<u8>> = kept.into_iter().map(|(_, case)| case.input).collect();
+    inputs.extend(fixed::recordings());
+    inputs
 }
 
 fn swaps_differ(case: &Case) -> Option<String> {

@@ -13,32 +13,32 @@ pub fn conflict(one: &Event, other: &Event) -> bool {
         || forks_what_is_joined_by(other, one)
 }
 
-fn same_thread(one: &Event, other: &Event) -> bool {
+pub(crate) fn same_thread(one: &Event, other: &Event) -> bool {
     one.thread == other.thread
 }
 
-fn same_variable_and_one_writes(one: &Event, other: &Event) -> bool {
+pub(crate) fn same_variable_and_one_writes(one: &Event, other: &Event) -> bool {
     match (variable(one), variable(other)) {
         (Some(a), Some(b)) => a == b && (writes(one) || writes(other)),
         _ => false,
     }
 }
 
-fn same_lock(one: &Event, other: &Event) -> bool {
+pub(crate) fn same_lock(one: &Event, other: &Event) -> bool {
     match (lock(one), lock(other)) {
         (Some(a), Some(b)) => a == b,
         _ => false,
     }
 }
 
-fn forks_or_joins_the_thread_of(one: &Event, other: &Event) -> bool {
+pub(crate) fn forks_or_joins_the_thread_of(one: &Event, other: &Event) -> bool {
     match one.operation {
         Operation::Fork { thread } | Operation::Join { thread } => thread == other.thread,
         _ => false,
     }
 }
 
-fn forks_what_is_joined_by(one: &Event, other: &Event) -> bool {
+pub(crate) fn forks_what_is_joined_by(one: &Event, other: &Event) -> bool {
     match (one.operation, other.operation) {
         (Operation::Fork { thread: forked }, Operation::Join { thread: joined }) => {
             forked == joined
@@ -47,7 +47,7 @@ fn forks_what_is_joined_by(one: &Event, other: &Event) -> bool {
     }
 }
 
-fn variable(event: &Event) -> Option<u8> {
+pub(crate) fn variable(event: &Event) -> Option<u8> {
     match event.operation {
         Operation::Read { variable, .. } | Operation::Write { variable, .. } => Some(variable),
         _ => None,
@@ -58,7 +58,7 @@ fn writes(event: &Event) -> bool {
     matches!(event.operation, Operation::Write { .. })
 }
 
-fn lock(event: &Event) -> Option<u8> {
+pub(crate) fn lock(event: &Event) -> Option<u8> {
     match event.operation {
         Operation::Acquire { lock }
         | Operation::Release { lock }

@@ -12,6 +12,7 @@ mod report;
 pub mod swaps;
 pub mod text;
 pub mod transactions;
+pub mod why;
 pub mod words;
 
 pub use judge::{faults, judge, possible_history, Answer, MOST_BYTES, WORK_AREA};

@@ -26,7 +26,8 @@ pub fn report(standard_input: &[u8]) -> String {
     text
 }
 
-fn first_line(answer: &Answer) -> String {
+/// The answer as a line.
+pub(crate) fn first_line(answer: &Answer) -> String {
     match answer {
         Answer::Cooperable { records, transactions } => {
             format!("cooperable {records} {transactions}\n")

@@ -66,11 +66,11 @@ ranged input out work fine e m = all-ranged (recordsOf input) (records-sized inp
 -- ---- the promise, case by case
 
 module _ (input out work : List ℕ) (fine : refusal input out work .number ≡ 0) where
-  abbrev es : List Event
+  abbrev pub es : List Event
   es = events input
 
   -- the answer and the output, of any verdict
-  abbrev kept : Verdict → Judged
+  abbrev pub kept : Verdict → Judged
   kept v = record { answer = v .answer; out = over (v .written) out; work = over (replicate workSize 0) work }
 
   judged-fine : (v : Verdict) → verdict es ≡ v → judged input out work ≡ kept v
@@ -86,7 +86,7 @@ module _ (input out work : List ℕ) (fine : refusal input out work .number ≡ 
   -- ---- cooperable
 
   module _ (none : shortest es ≡ 0) where
-    is-cooperable : judged input out work ≡ kept (cooperable es)
+    pub is-cooperable : judged input out work ≡ kept (cooperable es)
     unfolding verdict
     is-cooperable = judged-fine (cooperable es) (rw (none, verdict))
 
@@ -123,7 +123,7 @@ module _ (input out work : List ℕ) (fine : refusal input out work .number ≡ 
   -- ---- violation
 
   module _ (k : ℕ) (some : shortest es ≡ suc k) where
-    is-violation : judged input out work ≡ kept (violation es k)
+    pub is-violation : judged input out work ≡ kept (violation es k)
     unfolding verdict
     is-violation = judged-fine (violation es k) (rw (some, verdict))
 
@@ -135,7 +135,7 @@ module _ (input out work : List ℕ) (fine : refusal input out work .number ≡ 
     unfolding violation
     place-is = ap (λ j. j .answer .first) is-violation
 
-    numbers-are : numbersIn (judged input out work .answer .second) (judged input out work .out) ≡ cycleOf es (suc k)
+    pub numbers-are : numbersIn (judged input out work .answer .second) (judged input out work .out) ≡ cycleOf es (suc k)
     unfolding violation over
     numbers-are =
         let c : List ℕ = cycleOf es (suc k) in

@@ -126,7 +126,7 @@ over-size new old h =
 
 -- ---- From a recording without a refusal to its answer
 
-records-size : (n : ℕ) (bs : List ℕ) → length (map event (records n bs)) ≡ n
+pub records-size : (n : ℕ) (bs : List ℕ) → length (map event (records n bs)) ≡ n
 unfolding records
 records-size zero bs = refl
 records-size (suc n) bs = ap suc (records-size n (drop 8 bs))

@@ -32,7 +32,7 @@ rest-all : (input : List ℕ) → restFrom input 0 ≡ recordsOf input
 unfolding restFrom
 rest-all input = let z : length input / 8 - 0 ≡ length input / 8 = omega arith in ap (λ k. records k input) z
 
-rest-next : (input : List ℕ) (i : ℕ) → i < length input / 8 → restFrom input i ≡ take 8 (drop (8 * i) input) ∷ restFrom input (suc i)
+pub rest-next : (input : List ℕ) (i : ℕ) → i < length input / 8 → restFrom input i ≡ take 8 (drop (8 * i) input) ∷ restFrom input (suc i)
 unfolding restFrom records
 rest-next input i h =
     let k : length input / 8 - i ≡ suc (length input / 8 - suc i) = omega arith in
@@ -94,7 +94,7 @@ module _ (input : List ℕ) (r : Run) (all : List Event) (labels : List ℕ) (i 
   next : restFrom input i ≡ bs ∷ restFrom input (suc i)
   next = rest-next input i more ∙ ap (λ x. x ∷ restFrom input (suc i)) (sym is)
 
-  sound-more : i < length all → i < length labels → firstFault (recordChecks r bs) ≡ 0 → Under input r all labels i
+  pub sound-more : i < length all → i < length labels → firstFault (recordChecks r bs) ≡ 0 → Under input r all labels i
       → Under input (onwards r (event bs)) (set all i (event bs)) (set labels i (belongs (r .tally) (event bs))) (suc i)
   unfolding labelledFrom
   sound-more h k q u =

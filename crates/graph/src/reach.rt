@@ -25,8 +25,8 @@ pub fn begin(work: &mut [u64])
     }
 }
 
-// Row t is joined into the row of each transaction that t reaches. What is asked first always holds: with it the compiler sees that every test
-// of the loop lies in the work area.
+// Row t is joined into the row of each transaction that t reaches. It asks only what always holds,
+// and only of the square: so the compiler sees that every test of the loop lies in it.
 fn spread(work: &mut [u64], t: u16)
     requires { ⌜ (4096 ≤ length (now work)) × (t < 512) ⌝ }
     ensures { λ _. ⌜ Spread t (now (work .entry)) (now (work .exit)) ⌝ }
@@ -34,12 +34,9 @@ fn spread(work: &mut [u64], t: u16)
     if t >= 512 {
         return;
     }
-    if work.len() < 4096 {
-        return;
-    }
     let mut d: u16 = 0;
     while d < 512 {
-        if rows::test(work, d, t) {
+        if rows::test(&work[..4096], d, t) {
             rows::join(work, d, t);
         }
         d += 1;

@@ -10,8 +10,8 @@ use mathlib.Core.Bool.{Bool, true, false, cond, _&&_, _||_, and-false}
 use mathlib.Core.List.{List, _++_}
 use native.Mathlib.Decide.{decLt, ℕ-discrete}
 use borrow.Author.Tests.{eq-eqb, ne-eqb, le-leb, lt-leb, eqb-true}
-use lib.ListN.{length, getD, set, drop, replicate, length-set, length-append, length-drop, length-replicate, getD-replicate, List·getD-append}
-use lib.Seq.{getD-set-same, getD-set-other, drop-set-lt, drop-at}
+use lib.ListN.{length, getD, set, take, drop, replicate, length-set, length-append, length-drop, length-replicate, getD-replicate, List·getD-append}
+use lib.Seq.{getD-take, getD-set-same, getD-set-other, drop-set-lt, drop-at}
 use Rattle.rows.specs.Bits.{bitOf, wordAt, has, marked, holdsRow, joinedTo, joined, cleared, withinTo, inside}
 
 -- ---- bits of numbers
@@ -358,3 +358,10 @@ module _ (w : List ℕ) (a : ℕ) (v : List ℕ) (b : ℕ) where
             let q : c % 64 ≡ k = omega arith in
             let set : has w a c ≡ true = eq-eqb (bitOf (of w a v b (c / 64)) (c % 64)) 1 (ap₂ (λ (m l : ℕ). bitOf (of w a v b m) l) p q ∙ e) in
             ap₂ (λ (m l : ℕ). bitOf (to w a v b m) l) (sym p) (sym q) ∙ eqb-true (bitOf (to w a v b (c / 64)) (c % 64)) 1 (all c (omega arith) set)
+
+-- ---- the square alone
+
+-- cut to the square, the numbers have the same bits in it
+pub square-has : (w : List ℕ) (a b : ℕ) → a < 512 → b < 512 → has (take 4096 w) a b ≡ has w a b
+unfolding has
+square-has w a b ha hb = ap (λ (v : ℕ). eqb (bitOf v (b % 64)) 1) (getD-take 4096 w (wordAt a b) 0 (omega arith))

@@ -7,11 +7,11 @@ use mathlib.Core.Path.{_≡_, refl, sym, ap, ap₂, _∙_, subst}
 use mathlib.Core.Logic.{_≢_}
 use mathlib.Core.Bool.{Bool, true, false, _&&_, _||_}
 use mathlib.Core.List.{List, [], _∷_, _++_, map}
-use lib.ListN.{length, take, drop}
+use lib.ListN.{length, getD, take, drop}
 use lib.Seq.{sets, sets-eq}
 use lib.Dec.{T, eqb, eqb→eq, eqb-refl}
 use Rattle.trace.specs.Lists.{someOf, allOf, keep, firstOf, over, member, from, below}
-use Rattle.trace.proofs.Tests.{by, T-of, T-is, or-cases, or-left, or-right}
+use Rattle.trace.proofs.Tests.{by, by-same, T-of, T-is, or-cases, or-left, or-right}
 
 -- b is one of a list; an a stands before a b
 module _ {A : Type 0} where
@@ -64,6 +64,16 @@ either-way Among.top (Among.deeper n) f g h = g (Before.now n)
 either-way (Among.deeper m) Among.top f g h = h (Before.now m)
 either-way (Among.deeper m) (Among.deeper n) f g h = either-way m n f (λ o. g (Before.under o)) (λ o. h (Before.under o))
 
+-- the places of two, one before the other
+module _ {A : Type 0} (d : A) where
+  pub among-at : {x : A} {l : List A} → Among x l → (i : ℕ) × (i < length l) × (getD l i d ≡ x)
+  among-at Among.top = (0, omega arith, refl)
+  among-at (Among.deeper m) = let r = among-at m in (suc (r .0), omega (arith, r .1), r .2)
+
+  pub before-at : {x y : A} {l : List A} → Before x y l → (i : ℕ) × (j : ℕ) × (i < j) × (j < length l) × (getD l i d ≡ x) × (getD l j d ≡ y)
+  before-at (Before.now m) = let r = among-at m in (0, suc (r .0), omega arith, omega (arith, r .1), refl, r .2)
+  before-at (Before.under b) = let r = before-at b in (suc (r .0), suc (r .1), omega (arith, r .2), omega (arith, r .3), r .4, r .5)
+
 pub length-from : (s n : ℕ) → length (from s n) ≡ n
 unfolding from
 length-from s zero = refl
@@ -86,10 +96,16 @@ from-has s zero i h = absurd (not-suc-le-zero h)
 from-has s (suc n) zero h = subst (λ k. Among k (s ∷ from (suc s) n)) (sym (add-zero s)) Among.top
 from-has s (suc n) (suc i) h = Among.deeper (subst (λ k. Among k (from (suc s) n)) (suc-add s i ∙ sym (add-suc s i)) (from-has (suc s) n i (le-of-suc-le-suc h)))
 
+pub from-among : (s n a : ℕ) → s ≤ a → a < s + n → Among a (from s n)
+from-among s n a h k =
+    let i : ℕ = a - s in
+    let is : s + i ≡ a = omega arith in
+    subst (λ m. Among m (from s n)) is (from-has s n i (omega arith))
+
 pub below-has : (n a : ℕ) → a < n → Among a (below n)
 below-has n a h = subst (λ k. Among k (below n)) (zero-add a) (from-has 0 n a h)
 
-from-bound : (s n a : ℕ) → Among a (from s n) → a < s + n
+pub from-bound : (s n a : ℕ) → Among a (from s n) → a < s + n
 unfolding from
 from-bound s (suc n) a Among.top = omega arith
 from-bound s (suc n) a (Among.deeper m) = omega (arith, from-bound (suc s) n a m)
@@ -98,6 +114,12 @@ pub from-le : (s n a : ℕ) → Among a (from s n) → s ≤ a
 unfolding from
 from-le s (suc n) a Among.top = omega arith
 from-le s (suc n) a (Among.deeper m) = omega (arith, from-le (suc s) n a m)
+
+pub from-at : (s n i d : ℕ) → i < n → getD (from s n) i d ≡ s + i
+unfolding from
+from-at s zero i d h = absurd (omega arith)
+from-at s (suc n) zero d h = sym (add-zero s)
+from-at s (suc n) (suc i) d h = from-at (suc s) n i d (omega arith) ∙ suc-add s i ∙ sym (add-suc s i)
 
 pub below-bound : (n a : ℕ) → Among a (below n) → a < n
 below-bound n a m = subst (λ k. a < k) (zero-add n) (from-bound 0 n a m)
@@ -197,6 +219,11 @@ unfolding someOf
 some-same p q [] h = refl
 some-same p q (x ∷ l) h = some-cons p x l ∙ ap₂ (λ a b. a || b) (h x Among.top) (some-same p q l (λ y m. h y (Among.deeper m))) ∙ sym (some-cons q x l)
 
+pub some-none : {A : Type 0} (p : A → Bool) (l : List A) → ((x : A) → Among x l → p x ≡ false) → someOf p l ≡ false
+unfolding someOf
+some-none p [] h = refl
+some-none p (x ∷ l) h = some-cons p x l ∙ ap₂ (λ a b. a || b) (h x Among.top) (some-none p l (λ y m. h y (Among.deeper m)))
+
 pub some-has : {A : Type 0} (p : A → Bool) (x : A) (l : List A) → Among x l → T (p x) → T (someOf p l)
 some-has p x (y ∷ l) Among.top t = subst T (sym (some-cons p x l)) (or-left (p x) (someOf p l) t)
 some-has p x (y ∷ l) (Among.deeper m) t = subst T (sym (some-cons p y l)) (or-right (p y) (someOf p l) (some-has p x l m t))
@@ -266,12 +293,40 @@ module _ {A : Type 0} (p : A → Bool) (d : A) where
       (λ e. subst (λ z. T (p z)) (sym (first-true y l e)) (T-of e))
       (λ e. subst (λ z. T (p z)) (sym (first-false y l e)) (first-passes x l (among-cons m (λ q. absurd (subst T (ap p q ∙ e) t)) (λ n. n)) t))
 
+  -- it is the default, where none does
+  pub first-default : (l : List A) → ((x : A) → Among x l → p x ≡ false) → firstOf p d l ≡ d
+  unfolding firstOf
+  first-default [] h = refl
+  first-default (x ∷ l) h = first-false x l (h x Among.top) ∙ first-default l (λ y m. h y (Among.deeper m))
+
+  -- and is one of them
+  pub first-among : (x : A) (l : List A) → Among x l → T (p x) → Among (firstOf p d l) l
+  first-among x (y ∷ l) m t = by (p y)
+      (λ e. subst (λ z. Among z (y ∷ l)) (sym (first-true y l e)) Among.top)
+      (λ e. subst (λ z. Among z (y ∷ l)) (sym (first-false y l e)) (Among.deeper (first-among x l (among-cons m (λ q. absurd (subst T (ap p q ∙ e) t)) (λ n. n)) t)))
+
 -- of numbers in order, it is the lowest
 pub first-least : (p : ℕ → Bool) (d s n x : ℕ) → Among x (from s n) → T (p x) → firstOf p d (from s n) ≤ x
 unfolding from
 first-least p d s (suc n) x m t = by (p s)
     (λ e. omega (arith, first-true p d s (from (suc s) n) e, from-le s (suc n) x m))
     (λ e. omega (arith, first-false p d s (from (suc s) n) e, first-least p d (suc s) n x (among-cons m (λ q. absurd (subst T (ap p q ∙ e) t)) (λ k. k)) t))
+
+-- of numbers below m, it is below m
+pub first-below : (p : ℕ → Bool) (l : List ℕ) (m : ℕ) → 0 < m → ((x : ℕ) → Among x l → x < m) → firstOf p 0 l < m
+unfolding firstOf
+first-below p [] m h small = h
+first-below p (x ∷ l) m h small = by (p x)
+    (λ e. subst (λ k. k < m) (sym (first-true p 0 x l e)) (small x Among.top))
+    (λ e. subst (λ k. k < m) (sym (first-false p 0 x l e)) (first-below p l m h (λ y n. small y (Among.deeper n))))
+
+-- the one that passes where none before it does
+pub first-is : (p : ℕ → Bool) (d s n x : ℕ) → s ≤ x → x < s + n → p x ≡ true → ((y : ℕ) → s ≤ y → y < x → p y ≡ false) → firstOf p d (from s n) ≡ x
+unfolding from
+first-is p d s zero x h k t none = absurd (omega arith)
+first-is p d s (suc n) x h k t none = by-same s x
+    (λ e. first-true p d s (from (suc s) n) (ap p e ∙ t) ∙ e)
+    (λ e. first-false p d s (from (suc s) n) (none s (omega arith) (omega arith)) ∙ first-is p d (suc s) n x (omega arith) (omega arith) t (λ y a b. none y (omega arith) b))
 
 -- where it isn't the default 0, it passes, and none before it does; where it is, none passes
 pub first-some : (p : ℕ → Bool) (l : List ℕ) (k : ℕ) → firstOf p 0 l ≡ suc k → T (p (suc k))

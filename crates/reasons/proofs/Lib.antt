@@ -1,0 +1,9 @@
+pub mod Examples
+pub mod Reasons
+pub mod Pairs
+pub mod Hits
+pub mod Readings
+pub mod Causes
+pub mod Right
+pub mod Asking
+pub mod Tellings

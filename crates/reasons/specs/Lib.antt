@@ -1,0 +1,5 @@
+pub mod Why
+pub mod Meaning
+pub mod Lines
+pub mod Reading
+pub mod Telling

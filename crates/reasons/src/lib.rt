@@ -1,0 +1,79 @@
+// Why an edge of the reported cycle is there: the two records that make it, and on what they conflict.
+mod reading;
+mod reasoning;
+mod searching;
+mod telling;
+
+use checker::Answer;
+use checker::Refusal;
+ghost use mathlib.Core.Path.{_≡_};
+ghost use Rattle.checker.specs.Verdict as Verdict;
+ghost use Rattle.checker.specs.Judged.{Judged, judged};
+ghost use Rattle.reasons.specs.Why.{numbers, Asked, asked};
+ghost use Rattle.reasons.specs.Lines.{explained};
+
+// On what two operations conflict: the thread, variable or lock of both, or the thread that one of them forks or joins.
+pub enum Reason {
+    Thread(u8),
+    Variable(u8),
+    Lock(u8),
+    ForkJoin(u8),
+}
+
+// What makes an edge: two records, and the reason.
+pub struct Cause {
+    pub first: usize,
+    pub second: usize,
+    pub reason: Reason,
+}
+
+// What is told of an edge.
+pub enum Told {
+    Because(Cause),
+    NoSuchEdge,
+    Refused(Refusal),
+}
+
+// Judges a recording, and tells why the edge at a place of the reported cycle is there.
+pub fn why(input: &[u8], out: &mut [u8], work: &mut [u64], place: usize) -> Told
+    ensures { λ r. ⌜ _≡_ {A = Asked} (record { answer = numbers r; out = now (out .exit); work = now (work .exit) })
+        (asked (now (input .entry)) (now (out .entry)) (now (work .entry)) place) ⌝ }
+{
+    match checker::judge(input, out, work) {
+        Answer::Refused(refusal) => Told::Refused(refusal),
+        Answer::Cooperable {
+            records: _,
+            transactions: _,
+        } => Told::NoSuchEdge,
+        Answer::Violation { record, length } => {
+            if length <= place {
+                return Told::NoSuchEdge;
+            }
+            let mut labels = [0u16; 1024];
+            let all = reading::read(input, record + 1, &mut labels);
+            Told::Because(searching::cause_at(all, &labels, record + 1, &*out, length, place))
+        }
+    }
+}
+
+// Judges a recording, and tells why each edge of the reported cycle is there: four numbers for each, in cycle order.
+pub fn explain(input: &[u8], out: &mut [u8], work: &mut [u64], lines: &mut [u16; 2048]) -> Answer
+    ensures { λ r. ⌜ (_≡_ {A = Judged} (record { answer = Verdict.numbers r; out = now (out .exit); work = now (work .exit) })
+        (judged (now (input .entry)) (now (out .entry)) (now (work .entry))))
+        × (now (lines .exit) ≡ explained (now (input .entry)) (now (out .entry)) (now (work .entry)) (now (lines .entry))) ⌝ }
+{
+    let answer = checker::judge(input, out, work);
+    match answer {
+        Answer::Violation { record, length } => {
+            let mut labels = [0u16; 1024];
+            let all = reading::read(input, record + 1, &mut labels);
+            telling::write_lines(all, &labels, record + 1, &*out, length, lines);
+        }
+        Answer::Cooperable {
+            records: _,
+            transactions: _,
+        } => {}
+        Answer::Refused(_) => {}
+    }
+    answer
+}
