@@ -6,15 +6,15 @@ use reference::words::events;
 /// Forks and joins that name each other's threads, several reasons at once, an earlier first
 /// record with a later second, and an earlier pair past the violation.
 const CYCLES: [&str; 9] = [
-    "0 fork 1; 1 fork 2; 2 join 1; 2 write v0 1; 0 read v0 1",
-    "0 fork 9; 9 fork 3; 3 join 9; 3 acquire m0; 0 acquire m1; 0 join 3",
-    "0 fork 9; 9 fork 3; 3 join 9; 3 acquire m0; 3 release m0; 0 acquire m0",
-    "0 fork 1; 0 fork 2; 2 join 1; 2 write v0 1; 0 read v0 1",
-    "0 fork 1; 0 fork 2; 1 yield; 2 join 1; 2 write v0 1; 0 read v0 1",
-    "0 fork 1; 1 fork 2; 1 join 2; 1 write v3 1; 0 read v3 1",
-    "0 fork 1; 0 yield; 0 write v0 1; 1 write v0 2; 1 yield; 1 read v0 2; 1 write v9 1; 0 read v9 1",
-    "0 fork 1; 0 yield; 0 write v1 1; 0 write v2 1; 1 read v2 1; 1 write v3 1; 1 read v1 1; 0 read v3 1",
-    "0 fork 1; 0 yield; 0 write v5 1; 0 read v0 0; 1 write v0 1; 0 write v0 1; 1 read v5 1",
+    "0 fork 1\n1 fork 2\n2 join 1\n2 write 0 1\n0 read 0 1\n",
+    "0 fork 9\n9 fork 3\n3 join 9\n3 acquire 0\n0 acquire 1\n0 join 3\n",
+    "0 fork 9\n9 fork 3\n3 join 9\n3 acquire 0\n3 release 0\n0 acquire 0\n",
+    "0 fork 1\n0 fork 2\n2 join 1\n2 write 0 1\n0 read 0 1\n",
+    "0 fork 1\n0 fork 2\n1 yield\n2 join 1\n2 write 0 1\n0 read 0 1\n",
+    "0 fork 1\n1 fork 2\n1 join 2\n1 write 3 1\n0 read 3 1\n",
+    "0 fork 1\n0 yield\n0 write 0 1\n1 write 0 2\n1 yield\n1 read 0 2\n1 write 9 1\n0 read 9 1\n",
+    "0 fork 1\n0 yield\n0 write 1 1\n0 write 2 1\n1 read 2 1\n1 write 3 1\n1 read 1 1\n0 read 3 1\n",
+    "0 fork 1\n0 yield\n0 write 5 1\n0 read 0 0\n1 write 0 1\n0 write 0 1\n1 read 5 1\n",
 ];
 
 pub fn recordings() -> Vec<Vec<u8>> {

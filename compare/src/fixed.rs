@@ -10,21 +10,21 @@ use crate::shapes::{shape, SHAPES};
 /// P1 to P11, in order.
 const EXAMPLES: [&str; 11] = [
     "",
-    "0 write v3 5",
-    "0 fork 1; 0 read v0 0; 1 write v0 1; 0 write v0 1",
-    "0 fork 1; 0 read v0 0; 1 write v0 1; 0 yield; 0 write v0 1",
-    "0 fork 1; 0 read v0 0; 1 read v0 0; 0 read v0 0",
-    "0 fork 1; 0 acquire m0; 0 release m0; 1 acquire m0; 1 release m0; 0 acquire m0",
-    "0 fork 1; 0 acquire m0; 0 prewait m0; 1 acquire m0; 1 notify m0; 1 release m0; 0 postwait m0; 0 release m0",
-    "0 fork 1; 1 write v0 1; 0 join 1; 0 read v0 1",
-    "0 fork 1; 0 fork 2; 0 yield; 0 write v0 1; 1 read v0 1; 1 write v1 1; 2 read v1 1; 2 write v2 1; 0 read v2 1",
-    "0 read v0 7",
-    "0 acquire m0; 0 acquire m0",
+    "0 write 3 5\n",
+    "0 fork 1\n0 read 0 0\n1 write 0 1\n0 write 0 1\n",
+    "0 fork 1\n0 read 0 0\n1 write 0 1\n0 yield\n0 write 0 1\n",
+    "0 fork 1\n0 read 0 0\n1 read 0 0\n0 read 0 0\n",
+    "0 fork 1\n0 acquire 0\n0 release 0\n1 acquire 0\n1 release 0\n0 acquire 0\n",
+    "0 fork 1\n0 acquire 0\n0 prewait 0\n1 acquire 0\n1 notify 0\n1 release 0\n0 postwait 0\n0 release 0\n",
+    "0 fork 1\n1 write 0 1\n0 join 1\n0 read 0 1\n",
+    "0 fork 1\n0 fork 2\n0 yield\n0 write 0 1\n1 read 0 1\n1 write 1 1\n2 read 1 1\n2 write 2 1\n0 read 2 1\n",
+    "0 read 0 7\n",
+    "0 acquire 0\n0 acquire 0\n",
 ];
 
 /// All of document 01's examples.
 pub fn examples() -> Vec<Vec<u8>> {
-    let one = encode_all(&events("0 yield"));
+    let one = encode_all(&events("0 yield\n"));
     let mut inputs: Vec<Vec<u8>> = EXAMPLES.iter().map(|text| encode_all(&events(text))).collect();
     inputs.extend([7, 8193, 8199, 8200].map(|length| vec![0; length]));
     inputs.extend([511, 512, 513, 1024, 1025, 2000].map(|times| one.repeat(times)));
@@ -35,30 +35,30 @@ pub fn examples() -> Vec<Vec<u8>> {
 /// Exactly so many transactions, and then each kind of record where one more would begin.
 fn at_the_limit_of_transactions() -> Vec<Vec<u8>> {
     let beginning =
-        "0 fork 1; 0 fork 2; 0 fork 3; 0 yield; 1 acquire m0; 1 prewait m0; 3 acquire m1; 3 yield;";
+        "0 fork 1\n0 fork 2\n0 fork 3\n0 yield\n1 acquire 0\n1 prewait 0\n3 acquire 1\n3 yield\n";
     let last = [
-        "0 read v0 0",
-        "0 read v0 1",
-        "0 write v0 1",
-        "0 acquire m0",
-        "3 release m1",
-        "3 prewait m1",
-        "1 postwait m0",
-        "3 notify m1",
-        "0 fork 4",
-        "0 join 2",
-        "0 yield",
-        "2 yield",
-        "0 fork 0",
-        "4 yield",
-        "1 yield",
-        "0 release m0",
-        "0 join 0",
+        "0 read 0 0\n",
+        "0 read 0 1\n",
+        "0 write 0 1\n",
+        "0 acquire 0\n",
+        "3 release 1\n",
+        "3 prewait 1\n",
+        "1 postwait 0\n",
+        "3 notify 1\n",
+        "0 fork 4\n",
+        "0 join 2\n",
+        "0 yield\n",
+        "2 yield\n",
+        "0 fork 0\n",
+        "4 yield\n",
+        "1 yield\n",
+        "0 release 0\n",
+        "0 join 0\n",
     ];
     let mut inputs = Vec::new();
     for yields in [508, 509, 510] {
         for record in last {
-            let text = format!("{beginning} {} {record}; 0 yield", "0 yield;".repeat(yields));
+            let text = format!("{beginning}{}{record}0 yield\n", "0 yield\n".repeat(yields));
             inputs.push(encode_all(&events(&text)));
         }
     }
@@ -68,18 +68,18 @@ fn at_the_limit_of_transactions() -> Vec<Vec<u8>> {
 /// Two faults at one record: the lowest number wins.
 fn two_faults_at_once() -> Vec<Vec<u8>> {
     [
-        "0 acquire m0; 0 prewait m0; 0 join 0",
-        "0 acquire m0; 0 prewait m0; 0 fork 0",
-        "0 acquire m0; 0 prewait m0; 0 acquire m0",
-        "0 acquire m0; 0 prewait m0; 0 release m0",
-        "0 write v0 0; 0 acquire m0; 0 prewait m0; 0 read v0 1",
-        "0 fork 1; 0 acquire m0; 0 prewait m0; 1 acquire m0; 0 postwait m0",
-        "0 fork 1; 0 acquire m0; 0 prewait m0; 1 join 0; 0 postwait m0",
-        "0 fork 1; 0 acquire m0; 1 postwait m0",
-        "0 write v0 0; 0 fork 1; 0 join 1; 1 read v0 1",
-        "0 fork 1; 0 join 1; 1 fork 1",
-        "1 fork 1",
-        "1 join 1",
+        "0 acquire 0\n0 prewait 0\n0 join 0\n",
+        "0 acquire 0\n0 prewait 0\n0 fork 0\n",
+        "0 acquire 0\n0 prewait 0\n0 acquire 0\n",
+        "0 acquire 0\n0 prewait 0\n0 release 0\n",
+        "0 write 0 0\n0 acquire 0\n0 prewait 0\n0 read 0 1\n",
+        "0 fork 1\n0 acquire 0\n0 prewait 0\n1 acquire 0\n0 postwait 0\n",
+        "0 fork 1\n0 acquire 0\n0 prewait 0\n1 join 0\n0 postwait 0\n",
+        "0 fork 1\n0 acquire 0\n1 postwait 0\n",
+        "0 write 0 0\n0 fork 1\n0 join 1\n1 read 0 1\n",
+        "0 fork 1\n0 join 1\n1 fork 1\n",
+        "1 fork 1\n",
+        "1 join 1\n",
     ]
     .iter()
     .map(|text| encode_all(&events(text)))
@@ -90,20 +90,20 @@ fn two_faults_at_once() -> Vec<Vec<u8>> {
 /// every read is held to it.
 fn started_late() -> Vec<Vec<u8>> {
     [
-        "0 read v0 7",
-        "0 read v0 0; 0 read v0 1",
-        "0 read v0 7; 0 read v0 7",
-        "0 read v0 7; 0 read v0 0",
-        "0 read v255 65535; 0 read v255 65534",
-        "0 fork 1; 1 read v0 7; 0 read v0 7",
-        "0 fork 1; 1 read v0 7; 0 read v0 8",
-        "0 fork 1; 1 read v0 7; 0 read v0 0",
-        "0 fork 1; 0 read v0 7; 1 write v0 7; 0 read v0 7",
-        "0 fork 1; 0 read v0 7; 1 write v0 8; 0 read v0 7",
-        "0 fork 1; 1 write v0 3; 0 read v0 0",
-        "0 fork 1; 1 write v0 0; 0 read v0 0; 1 read v1 9; 0 write v1 9",
-        "0 fork 1; 0 fork 2; 1 read v0 7; 2 read v0 7; 0 yield; 0 write v0 1; 1 read v0 1",
-        "0 fork 1; 0 read v0 7; 1 read v0 7; 0 read v0 7",
+        "0 read 0 7\n",
+        "0 read 0 0\n0 read 0 1\n",
+        "0 read 0 7\n0 read 0 7\n",
+        "0 read 0 7\n0 read 0 0\n",
+        "0 read 255 65535\n0 read 255 65534\n",
+        "0 fork 1\n1 read 0 7\n0 read 0 7\n",
+        "0 fork 1\n1 read 0 7\n0 read 0 8\n",
+        "0 fork 1\n1 read 0 7\n0 read 0 0\n",
+        "0 fork 1\n0 read 0 7\n1 write 0 7\n0 read 0 7\n",
+        "0 fork 1\n0 read 0 7\n1 write 0 8\n0 read 0 7\n",
+        "0 fork 1\n1 write 0 3\n0 read 0 0\n",
+        "0 fork 1\n1 write 0 0\n0 read 0 0\n1 read 1 9\n0 write 1 9\n",
+        "0 fork 1\n0 fork 2\n1 read 0 7\n2 read 0 7\n0 yield\n0 write 0 1\n1 read 0 1\n",
+        "0 fork 1\n0 read 0 7\n1 read 0 7\n0 read 0 7\n",
     ]
     .iter()
     .map(|text| encode_all(&events(text)))
@@ -113,16 +113,16 @@ fn started_late() -> Vec<Vec<u8>> {
 /// What may look wrong and isn't.
 fn allowed_by_the_machine() -> Vec<Vec<u8>> {
     [
-        "0 fork 1; 0 join 1; 0 join 1; 0 join 1",
-        "0 fork 1; 0 fork 2; 0 yield; 1 join 2; 0 join 2; 1 join 0",
-        "0 fork 1; 1 join 0; 1 join 0",
-        "0 fork 1; 1 acquire m0; 0 join 1; 0 join 1; 0 write v0 1",
-        "0 fork 1; 1 acquire m0; 1 prewait m0; 0 join 1; 0 acquire m0",
-        "0 fork 1; 0 acquire m0; 0 prewait m0; 1 join 0; 1 acquire m0",
-        "0 acquire m0; 0 prewait m0; 0 postwait m0; 0 prewait m0",
-        "0 fork 1; 0 acquire m0; 0 acquire m1; 0 prewait m0; 1 acquire m0; 1 notify m0",
-        "0 fork 15; 15 fork 1; 1 fork 7; 0 join 7; 15 join 0; 15 join 7",
-        "0 fork 1; 0 yield; 1 fork 2; 0 join 2",
+        "0 fork 1\n0 join 1\n0 join 1\n0 join 1\n",
+        "0 fork 1\n0 fork 2\n0 yield\n1 join 2\n0 join 2\n1 join 0\n",
+        "0 fork 1\n1 join 0\n1 join 0\n",
+        "0 fork 1\n1 acquire 0\n0 join 1\n0 join 1\n0 write 0 1\n",
+        "0 fork 1\n1 acquire 0\n1 prewait 0\n0 join 1\n0 acquire 0\n",
+        "0 fork 1\n0 acquire 0\n0 prewait 0\n1 join 0\n1 acquire 0\n",
+        "0 acquire 0\n0 prewait 0\n0 postwait 0\n0 prewait 0\n",
+        "0 fork 1\n0 acquire 0\n0 acquire 1\n0 prewait 0\n1 acquire 0\n1 notify 0\n",
+        "0 fork 15\n15 fork 1\n1 fork 7\n0 join 7\n15 join 0\n15 join 7\n",
+        "0 fork 1\n0 yield\n1 fork 2\n0 join 2\n",
     ]
     .iter()
     .map(|text| encode_all(&events(text)))

@@ -16,6 +16,7 @@ mod shrink;
 mod small;
 mod swapped;
 mod tally;
+mod texts;
 
 use std::process::ExitCode;
 

@@ -1,4 +1,4 @@
-//! The programs `judge` and `why`, run as processes of their own.
+//! The programs, each run as a process of its own.
 
 use std::io::{self, Read, Write};
 use std::path::{Path, PathBuf};
@@ -7,7 +7,7 @@ use std::thread::sleep;
 use std::time::Duration;
 
 /// What a program has to print for a standard input.
-type Expected = fn(&[u8]) -> String;
+type Expected = fn(&[u8]) -> Vec<u8>;
 
 /// How the program is started on this machine, and what it is held to.
 pub struct Program {
@@ -18,11 +18,19 @@ pub struct Program {
 
 impl Program {
     pub fn judge() -> Result<Program, String> {
-        Program::find("judge", reference::report)
+        Program::find("judge", |input| reference::report(input).into_bytes())
     }
 
     pub fn why() -> Result<Program, String> {
-        Program::find("why", reference::why::report)
+        Program::find("why", |input| reference::why::report(input).into_bytes())
+    }
+
+    pub fn to_text() -> Result<Program, String> {
+        Program::find("to_text", reference::text::to_text)
+    }
+
+    pub fn from_text() -> Result<Program, String> {
+        Program::find("from_text", reference::text::from_text)
     }
 
     /// Finds the program in target/bin and a way to run it: by itself, by the kit's loader, or, on
@@ -57,41 +65,52 @@ impl Program {
     }
 
     /// What it prints for this standard input, which comes in so many pieces.
-    pub fn printed(&self, input: &[u8], pieces: usize) -> io::Result<String> {
+    pub fn printed(&self, input: &[u8], pieces: usize) -> io::Result<Vec<u8>> {
         let mut child = self.spawn()?;
         if let Some(mut pipe) = child.stdin.take() {
             for (place, piece) in input.chunks((input.len() / pieces).max(1)).enumerate() {
                 if place > 0 {
                     sleep(Duration::from_millis(2));
                 }
-                // It stops reading at 8,200 bytes, and then the pipe may be shut.
+                // It stops reading at its limit, and then the pipe may be shut.
                 if pipe.write_all(piece).is_err() {
                     break;
                 }
             }
         }
-        let mut text = Vec::new();
+        let mut printed = Vec::new();
         if let Some(mut pipe) = child.stdout.take() {
-            pipe.read_to_end(&mut text)?;
+            pipe.read_to_end(&mut printed)?;
         }
         let status = child.wait()?;
         if !status.success() {
-            return Err(io::Error::other(format!("{} ended with {status}", self.name)));
+            return Err(io::Error::other(format!("it ended with {status}")));
         }
-        Ok(String::from_utf8_lossy(&text).into_owned())
+        Ok(printed)
     }
 
     /// What it and the reference differ in, in words.
     pub fn difference(&self, input: &[u8], pieces: usize) -> Option<String> {
-        let (name, expected) = (self.name, (self.expected)(input));
+        let expected = (self.expected)(input);
+        let name = self.name;
         match self.printed(input, pieces) {
             Ok(printed) if printed == expected => None,
-            Ok(printed) => {
-                Some(format!("{name} prints:\n{printed}\nreference prints:\n{expected}"))
-            }
+            Ok(printed) => Some(format!(
+                "{name} prints:\n{}\nreference prints:\n{}",
+                shown(&printed),
+                shown(&expected)
+            )),
             Err(error) => Some(format!("{name}: {error}")),
         }
     }
+}
+
+/// The first lines, with every byte that no line of text has written out.
+pub fn shown(bytes: &[u8]) -> String {
+    let shown = &bytes[..bytes.len().min(1000)];
+    let lines = shown.split_inclusive(|byte| *byte == b'\n');
+    let text: String = lines.map(|line| format!("  {}\n", line.escape_ascii())).collect();
+    format!("{text}  ({} bytes in all)\n", bytes.len())
 }
 
 /// The kit is found from `rt doc`, which names a page two folders below its root.

@@ -7,12 +7,12 @@ use reference::words::words_of_bytes;
 use crate::case::Case;
 use crate::numbers::Numbers;
 use crate::options::Options;
-use crate::program::Program;
+use crate::program::{shown, Program};
 use crate::shrink::shrink;
 use crate::small::alphabets;
 use crate::swapped::{outcome, Outcome};
 use crate::tally::Tally;
-use crate::{edges, fixed, recordings, regressions};
+use crate::{edges, fixed, recordings, regressions, texts};
 
 /// After so many failures a run stops: the first ones say enough.
 const MOST_FAILURES: u64 = 5;
@@ -48,6 +48,10 @@ pub fn run(options: &Options) -> u64 {
     }
     if options.why > 0 {
         run.phase("runs of the program why", |run| run.why(options.why, options.seed));
+    }
+    if options.text > 0 {
+        run.phase("runs of to_text", |run| run.texts_written(options.text, options.seed));
+        run.phase("runs of from_text", |run| run.texts_read(options.text, options.seed));
     }
     run.tally.print();
     // A run of full size has to have met every refusal at every kind of record.
@@ -138,16 +142,47 @@ impl Run {
         self.runs(Program::why(), inputs);
     }
 
-    /// Runs the program on each; one that isn't there is a failure.
-    fn runs(&mut self, found: Result<Program, String>, inputs: Vec<Vec<u8>>) {
-        let program = match found {
-            Ok(program) => program,
-            Err(said) => {
-                println!("{said}");
-                self.failed += 1;
+    fn texts_written(&mut self, count: u64, seed: u64) {
+        let mut numbers = Numbers::from_seed(seed.rotate_left(16));
+        let mut inputs = kept_and_fixed();
+        inputs.extend(texts::records());
+        inputs.extend((0..count).map(|_| recordings::any(&mut numbers)));
+        inputs.extend((0..count).map(|_| texts::any_records(&mut numbers)));
+        self.runs(Program::to_text(), inputs);
+    }
+
+    fn texts_read(&mut self, count: u64, seed: u64) {
+        let Some(program) = self.found(Program::from_text()) else { return };
+        let mut numbers = Numbers::from_seed(seed.rotate_left(48));
+        let mut inputs = texts::fixed();
+        inputs.extend((0..count).map(|_| texts::any(&mut numbers)));
+        for (place, input) in inputs.into_iter().enumerate() {
+            let pieces = if place % 8 == 0 { 3 } else { 1 };
+            if self.failed >= MOST_FAILURES {
                 return;
             }
-        };
+            match program.difference(&input, pieces) {
+                None => self.passed += 1,
+                Some(said) => {
+                    self.failed += 1;
+                    println!("failed on the text\n{}{said}", shown(&input));
+                }
+            }
+        }
+    }
+
+    /// The program; one that isn't there is a failure.
+    fn found(&mut self, program: Result<Program, String>) -> Option<Program> {
+        if let Err(said) = &program {
+            println!("{said}");
+            self.failed += 1;
+        }
+        program.ok()
+    }
+
+    /// Runs the program on each.
+    fn runs(&mut self, found: Result<Program, String>, inputs: Vec<Vec<u8>>) {
+        let Some(program) = self.found(found) else { return };
         for (place, input) in inputs.into_iter().enumerate() {
             // Now and then the input comes in pieces, as a pipe may give it.
             let pieces = if place % 8 == 0 { 3 } else { 1 };

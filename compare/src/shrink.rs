@@ -96,7 +96,7 @@ mod tests {
 
     #[test]
     fn only_what_makes_it_fail_is_left() {
-        let text = "0 fork 3; 0 yield; 3 write v9 7; 0 write v9 8; 0 yield; 0 read v9 8; 0 yield";
+        let text = "0 fork 3\n0 yield\n3 write 9 7\n0 write 9 8\n0 yield\n0 read 9 8\n0 yield\n";
         let fails = |case: &Case| {
             let writes = case.input.chunks(8).filter(|record| record.get(2) == Some(&2)).count();
             writes == 2
@@ -104,6 +104,6 @@ mod tests {
         let mut case = Case::plain(encode_all(&events(text)));
         case.out_length += 5;
         let small = shrink(&case, &fails);
-        assert_eq!(small, Case::plain(encode_all(&events("0 write v0 0; 0 write v0 0"))));
+        assert_eq!(small, Case::plain(encode_all(&events("0 write 0 0\n0 write 0 0\n"))));
     }
 }

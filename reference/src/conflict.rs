@@ -84,21 +84,21 @@ mod tests {
 
     #[test]
     fn the_five_rules() {
-        assert!(holds("3 yield; 3 read v0 0"));
-        assert!(!holds("3 yield; 2 yield"));
-        assert!(!holds("1 read v0 0; 2 read v0 0"));
-        assert!(holds("1 read v0 0; 2 write v0 0"));
-        assert!(holds("1 write v0 7; 2 write v0 7"));
-        assert!(!holds("1 write v0 7; 2 write v1 7"));
-        assert!(holds("1 notify m2; 2 notify m2"));
-        assert!(holds("1 acquire m2; 2 postwait m2"));
-        assert!(!holds("1 acquire m2; 2 acquire m3"));
-        assert!(!holds("1 write v3 0; 2 acquire m3"));
-        assert!(holds("1 fork 2; 2 yield"));
-        assert!(holds("1 join 2; 2 yield"));
-        assert!(!holds("1 fork 3; 2 yield"));
-        assert!(holds("1 fork 3; 2 join 3"));
-        assert!(!holds("1 join 3; 2 join 3"));
-        assert!(!holds("1 fork 3; 2 fork 3"));
+        assert!(holds("3 yield\n3 read 0 0\n"));
+        assert!(!holds("3 yield\n2 yield\n"));
+        assert!(!holds("1 read 0 0\n2 read 0 0\n"));
+        assert!(holds("1 read 0 0\n2 write 0 0\n"));
+        assert!(holds("1 write 0 7\n2 write 0 7\n"));
+        assert!(!holds("1 write 0 7\n2 write 1 7\n"));
+        assert!(holds("1 notify 2\n2 notify 2\n"));
+        assert!(holds("1 acquire 2\n2 postwait 2\n"));
+        assert!(!holds("1 acquire 2\n2 acquire 3\n"));
+        assert!(!holds("1 write 3 0\n2 acquire 3\n"));
+        assert!(holds("1 fork 2\n2 yield\n"));
+        assert!(holds("1 join 2\n2 yield\n"));
+        assert!(!holds("1 fork 3\n2 yield\n"));
+        assert!(holds("1 fork 3\n2 join 3\n"));
+        assert!(!holds("1 join 3\n2 join 3\n"));
+        assert!(!holds("1 fork 3\n2 fork 3\n"));
     }
 }

@@ -10,6 +10,7 @@ pub mod machine;
 pub mod record;
 mod report;
 pub mod swaps;
+pub mod text;
 pub mod transactions;
 pub mod why;
 pub mod words;

@@ -53,7 +53,7 @@ mod tests {
     #[test]
     fn yield_and_prewait_are_the_last_and_join_is_the_first() {
         let history = events(
-            "0 fork 1; 1 yield; 1 yield; 0 join 1; 0 acquire m0; 0 prewait m0; 0 postwait m0; 0 join 1",
+            "0 fork 1\n1 yield\n1 yield\n0 join 1\n0 acquire 0\n0 prewait 0\n0 postwait 0\n0 join 1\n",
         );
         assert_eq!(transactions(&history), [0, 1, 2, 3, 3, 3, 4, 5]);
     }
@@ -61,7 +61,7 @@ mod tests {
     #[test]
     fn serial_traces() {
         assert!(serial(&[]));
-        assert!(serial(&events("0 fork 1; 0 yield; 1 yield; 0 yield")));
-        assert!(!serial(&events("0 fork 1; 1 yield; 0 yield")));
+        assert!(serial(&events("0 fork 1\n0 yield\n1 yield\n0 yield\n")));
+        assert!(!serial(&events("0 fork 1\n1 yield\n0 yield\n")));
     }
 }

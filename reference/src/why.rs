@@ -140,10 +140,9 @@ mod tests {
     use crate::record::encode_all;
     use crate::words::events;
 
-    const P3: &str = "0 fork 1; 0 read v0 0; 1 write v0 1; 0 write v0 1";
-    const P6: &str =
-        "0 fork 1; 0 acquire m0; 0 release m0; 1 acquire m0; 1 release m0; 0 acquire m0";
-    const P9: &str = "0 fork 1; 0 fork 2; 0 yield; 0 write v0 1; 1 read v0 1; 1 write v1 1; 2 read v1 1; 2 write v2 1; 0 read v2 1";
+    const P3: &str = "0 fork 1\n0 read 0 0\n1 write 0 1\n0 write 0 1\n";
+    const P6: &str = "0 fork 1\n0 acquire 0\n0 release 0\n1 acquire 0\n1 release 0\n0 acquire 0\n";
+    const P9: &str = "0 fork 1\n0 fork 2\n0 yield\n0 write 0 1\n1 read 0 1\n1 write 1 1\n2 read 1 1\n2 write 2 1\n0 read 2 1\n";
 
     fn bytes(text: &str) -> Vec<u8> {
         encode_all(&events(text))
@@ -174,14 +173,14 @@ mod tests {
     #[test]
     fn no_edge_without_a_violation() {
         prints("", "cooperable 0 0\n");
-        prints("0 write v3 5", "cooperable 1 1\n");
-        prints("0 fork 1; 0 read v0 0; 1 read v0 0; 0 read v0 0", "cooperable 4 2\n");
+        prints("0 write 3 5\n", "cooperable 1 1\n");
+        prints("0 fork 1\n0 read 0 0\n1 read 0 0\n0 read 0 0\n", "cooperable 4 2\n");
     }
 
     #[test]
     fn a_refusal_goes_first() {
-        let twice = bytes("0 acquire m0; 0 acquire m0");
-        let late = bytes(&format!("{P3}; 2 yield"));
+        let twice = bytes("0 acquire 0\n0 acquire 0\n");
+        let late = bytes(&format!("{P3}2 yield\n"));
         for place in [0, 1, 2, u64::MAX] {
             assert_eq!(why(&[0; 7], place), Why::Refused { number: 1, record: 0 });
             assert_eq!(why(&[0; 8200], place), Why::Refused { number: 2, record: 0 });
@@ -196,17 +195,17 @@ mod tests {
     fn forks_and_joins() {
         // Records 1 and 2 name each other's threads: the earlier one's target is 2.
         prints(
-            "0 fork 1; 1 fork 2; 2 join 1; 2 write v0 1; 0 read v0 1",
+            "0 fork 1\n1 fork 2\n2 join 1\n2 write 0 1\n0 read 0 1\n",
             "violation 4 3\n0 0 1 fork-join 1\n1 1 2 fork-join 2\n2 3 4 variable 0\n",
         );
         // A fork and a join of thread 1 by others; the fork of 2 comes later.
         prints(
-            "0 fork 1; 0 fork 2; 2 join 1; 2 write v0 1; 0 read v0 1",
+            "0 fork 1\n0 fork 2\n2 join 1\n2 write 0 1\n0 read 0 1\n",
             "violation 4 2\n0 0 2 fork-join 1\n1 3 4 variable 0\n",
         );
         // Only the later record of 2 and 3 names a thread.
         prints(
-            "0 fork 1; 0 fork 2; 1 yield; 2 join 1; 2 write v0 1; 0 read v0 1",
+            "0 fork 1\n0 fork 2\n1 yield\n2 join 1\n2 write 0 1\n0 read 0 1\n",
             "violation 5 3\n0 0 2 fork-join 1\n1 2 3 fork-join 1\n2 4 5 variable 0\n",
         );
     }
@@ -215,17 +214,17 @@ mod tests {
     fn the_thread_goes_first_where_several_hold() {
         // Variable 0 too.
         prints(
-            "0 fork 1; 0 yield; 0 write v0 1; 1 write v0 2; 1 yield; 1 read v0 2; 1 write v9 1; 0 read v9 1",
+            "0 fork 1\n0 yield\n0 write 0 1\n1 write 0 2\n1 yield\n1 read 0 2\n1 write 9 1\n0 read 9 1\n",
             "violation 7 3\n0 2 3 variable 0\n1 3 5 thread 1\n2 6 7 variable 9\n",
         );
         // Lock 4 too.
         prints(
-            "0 fork 1; 0 yield; 0 write v0 1; 1 acquire m4; 1 read v0 1; 1 yield; 1 release m4; 1 write v9 1; 0 read v9 1",
+            "0 fork 1\n0 yield\n0 write 0 1\n1 acquire 4\n1 read 0 1\n1 yield\n1 release 4\n1 write 9 1\n0 read 9 1\n",
             "violation 8 3\n0 2 4 variable 0\n1 3 6 thread 1\n2 7 8 variable 9\n",
         );
         // A fork and a join of thread 2 too.
         prints(
-            "0 fork 1; 1 fork 2; 1 join 2; 1 write v3 1; 0 read v3 1",
+            "0 fork 1\n1 fork 2\n1 join 2\n1 write 3 1\n0 read 3 1\n",
             "violation 4 3\n0 0 1 fork-join 1\n1 1 2 thread 1\n2 3 4 variable 3\n",
         );
     }
@@ -234,7 +233,7 @@ mod tests {
     fn the_earliest_first_and_for_it_the_earliest_second() {
         // Of transaction 1 to 2: records 2 and 6 go before the earlier second of 3 and 4.
         prints(
-            "0 fork 1; 0 yield; 0 write v1 1; 0 write v2 1; 1 read v2 1; 1 write v3 1; 1 read v1 1; 1 read v1 1; 0 read v3 1",
+            "0 fork 1\n0 yield\n0 write 1 1\n0 write 2 1\n1 read 2 1\n1 write 3 1\n1 read 1 1\n1 read 1 1\n0 read 3 1\n",
             "violation 8 2\n0 2 6 variable 1\n1 5 8 variable 3\n",
         );
     }
@@ -243,7 +242,7 @@ mod tests {
     fn records_past_the_violation_do_not_count() {
         // Records 2 and 6 would be earlier, but the judged prefix ends at 5.
         prints(
-            "0 fork 1; 0 yield; 0 write v5 1; 0 read v0 0; 1 write v0 1; 0 write v0 1; 1 read v5 1",
+            "0 fork 1\n0 yield\n0 write 5 1\n0 read 0 0\n1 write 0 1\n0 write 0 1\n1 read 5 1\n",
             "violation 5 2\n0 3 4 variable 0\n1 4 5 variable 0\n",
         );
     }
@@ -251,8 +250,8 @@ mod tests {
     #[test]
     fn there_is_a_reason_exactly_for_a_conflict() {
         let all = events(
-            "0 read v1 0; 1 write v1 0; 2 write v2 0; 0 acquire m1; 1 notify m1; 2 release m2;
-             0 fork 1; 0 join 2; 1 fork 2; 2 join 1; 2 join 0; 3 join 1; 3 yield; 1 yield",
+            "0 read 1 0\n1 write 1 0\n2 write 2 0\n0 acquire 1\n1 notify 1\n2 release 2\n0 fork 1\n\
+             0 join 2\n1 fork 2\n2 join 1\n2 join 0\n3 join 1\n3 yield\n1 yield\n",
         );
         for first in &all {
             for second in &all {

@@ -1,60 +1,47 @@
-//! Recordings in words, as document 01 writes its examples: `0 write v3 5`.
+//! Recordings for people: tests are written, and failing cases printed, in the written form.
 
-use crate::record::{decode, Event, Operation};
+use crate::record::{decode, Event, RECORD_LENGTH};
+use crate::text::{line, read};
 
-/// One event in words.
-pub fn words(event: &Event) -> String {
-    let operation = match event.operation {
-        Operation::Read { variable, value } => format!("read v{variable} {value}"),
-        Operation::Write { variable, value } => format!("write v{variable} {value}"),
-        Operation::Acquire { lock } => format!("acquire m{lock}"),
-        Operation::Release { lock } => format!("release m{lock}"),
-        Operation::Prewait { lock } => format!("prewait m{lock}"),
-        Operation::Postwait { lock } => format!("postwait m{lock}"),
-        Operation::Notify { lock } => format!("notify m{lock}"),
-        Operation::Fork { thread } => format!("fork {thread}"),
-        Operation::Join { thread } => format!("join {thread}"),
-        Operation::Yield => "yield".to_string(),
-    };
-    format!("{} {operation}", event.thread)
-}
-
-/// Eight bytes in words, or as they are if they say no event.
+/// Eight bytes as their line, or as they are if they say no event.
 pub fn words_of_bytes(bytes: &[u8]) -> String {
     let as_they_are = || bytes.iter().map(|b| format!("{b:02X}")).collect::<Vec<_>>().join(" ");
-    if bytes.len() != 8 {
+    if bytes.len() != RECORD_LENGTH {
         return format!("bytes {}", as_they_are());
     }
     match decode(bytes) {
-        Ok(event) => words(&event),
+        Ok(event) => line(&event),
         Err(number) => format!("bytes {} (fault {number})", as_they_are()),
     }
 }
 
-/// The events of a text, parted by semicolons or line feeds. Panics on anything else.
+/// The events of a text in the written form. Panics on anything else.
 pub fn events(text: &str) -> Vec<Event> {
-    text.split([';', '\n']).map(str::trim).filter(|line| !line.is_empty()).map(event).collect()
+    let mut records = vec![0; RECORD_LENGTH * text.lines().count()];
+    if let Err((number, place)) = read(text.as_bytes(), &mut records) {
+        panic!("refused {number} {place}: {text}");
+    }
+    records
+        .chunks(RECORD_LENGTH)
+        .map(|record| decode(record).expect("a line is an event"))
+        .collect()
 }
 
-fn event(line: &str) -> Event {
-    let words: Vec<&str> = line.split_whitespace().collect();
-    let number = |place: usize| -> u16 {
-        let digits = words[place].trim_start_matches(['v', 'm']);
-        digits.parse().unwrap_or_else(|_| panic!("no number in: {line}"))
-    };
-    let target = || u8::try_from(number(2)).unwrap_or_else(|_| panic!("too large: {line}"));
-    let operation = match words[1] {
-        "read" => Operation::Read { variable: target(), value: number(3) },
-        "write" => Operation::Write { variable: target(), value: number(3) },
-        "acquire" => Operation::Acquire { lock: target() },
-        "release" => Operation::Release { lock: target() },
-        "prewait" => Operation::Prewait { lock: target() },
-        "postwait" => Operation::Postwait { lock: target() },
-        "notify" => Operation::Notify { lock: target() },
-        "fork" => Operation::Fork { thread: target() },
-        "join" => Operation::Join { thread: target() },
-        "yield" => Operation::Yield,
-        other => panic!("no such operation: {other}"),
-    };
-    Event { thread: number(0) as u8, operation }
+#[cfg(test)]
+mod tests {
+    use super::*;
+
+    #[test]
+    fn a_failing_case_is_printed_in_the_written_form() {
+        assert_eq!(words_of_bytes(&[0xA7, 0x7A, 2, 0, 3, 0, 5, 0]), "0 write 3 5");
+        assert_eq!(words_of_bytes(&[0xA7, 0x7A, 10, 16]), "bytes A7 7A 0A 10");
+        let faulty = [0xA7, 0x7A, 10, 16, 0, 0, 0, 0];
+        assert_eq!(words_of_bytes(&faulty), "bytes A7 7A 0A 10 00 00 00 00 (fault 7)");
+    }
+
+    #[test]
+    #[should_panic(expected = "refused 14 1")]
+    fn a_test_recording_without_the_form_stops_the_test() {
+        events("0 fork 1\n0 read v0 0\n");
+    }
 }

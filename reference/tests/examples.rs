@@ -46,10 +46,10 @@ fn refused(input: &[u8], number: u64, record: u64) {
     assert_eq!(report(input), format!("refused {number} {record}\n"));
 }
 
-const P3: &str = "0 fork 1; 0 read v0 0; 1 write v0 1; 0 write v0 1";
-const P4: &str = "0 fork 1; 0 read v0 0; 1 write v0 1; 0 yield; 0 write v0 1";
-const P7: &str = "0 fork 1; 0 acquire m0; 0 prewait m0; 1 acquire m0; 1 notify m0; 1 release m0; 0 postwait m0; 0 release m0";
-const P9: &str = "0 fork 1; 0 fork 2; 0 yield; 0 write v0 1; 1 read v0 1; 1 write v1 1; 2 read v1 1; 2 write v2 1; 0 read v2 1";
+const P3: &str = "0 fork 1\n0 read 0 0\n1 write 0 1\n0 write 0 1\n";
+const P4: &str = "0 fork 1\n0 read 0 0\n1 write 0 1\n0 yield\n0 write 0 1\n";
+const P7: &str = "0 fork 1\n0 acquire 0\n0 prewait 0\n1 acquire 0\n1 notify 0\n1 release 0\n0 postwait 0\n0 release 0\n";
+const P9: &str = "0 fork 1\n0 fork 2\n0 yield\n0 write 0 1\n1 read 0 1\n1 write 1 1\n2 read 1 1\n2 write 2 1\n0 read 2 1\n";
 
 #[test]
 fn p1_to_p5() {
@@ -57,7 +57,7 @@ fn p1_to_p5() {
     assert_eq!(report(b""), "cooperable 0 0\n");
 
     let p2 = [0xA7, 0x7A, 2, 0, 3, 0, 5, 0];
-    assert_eq!(bytes("0 write v3 5"), p2);
+    assert_eq!(bytes("0 write 3 5\n"), p2);
     let answer = Answer::Cooperable { records: 1, transactions: 1 };
     assert_eq!(judged(&p2), (answer, p2.to_vec()));
 
@@ -67,27 +67,27 @@ fn p1_to_p5() {
     cooperable(P4, 3, &[0, 1, 3, 2, 4]);
     assert_eq!(report(&bytes(P4)), "cooperable 5 3\n0 0 0\n1 1 2\n2 0 4\n");
 
-    cooperable("0 fork 1; 0 read v0 0; 1 read v0 0; 0 read v0 0", 2, &[0, 1, 3, 2]);
+    cooperable("0 fork 1\n0 read 0 0\n1 read 0 0\n0 read 0 0\n", 2, &[0, 1, 3, 2]);
 }
 
 #[test]
 fn p6_to_p9() {
     violation(
-        "0 fork 1; 0 acquire m0; 0 release m0; 1 acquire m0; 1 release m0; 0 acquire m0",
+        "0 fork 1\n0 acquire 0\n0 release 0\n1 acquire 0\n1 release 0\n0 acquire 0\n",
         5,
         &[0, 1],
     );
     cooperable(P7, 3, &[0, 1, 2, 3, 4, 5, 6, 7]);
     assert_eq!(report(&bytes(P7)), "cooperable 8 3\n0 0 0\n1 1 3\n2 0 6\n");
-    cooperable("0 fork 1; 1 write v0 1; 0 join 1; 0 read v0 1", 3, &[0, 1, 2, 3]);
+    cooperable("0 fork 1\n1 write 0 1\n0 join 1\n0 read 0 1\n", 3, &[0, 1, 2, 3]);
     violation(P9, 8, &[1, 2, 3]);
     assert_eq!(report(&bytes(P9)), "violation 8 3\n1 0 3\n2 1 4\n3 2 6\n");
 }
 
 #[test]
 fn p10_and_p11() {
-    cooperable("0 read v0 7", 1, &[0]);
-    refused(&bytes("0 acquire m0; 0 acquire m0"), 10, 1);
+    cooperable("0 read 0 7\n", 1, &[0]);
+    refused(&bytes("0 acquire 0\n0 acquire 0\n"), 10, 1);
 }
 
 #[test]
@@ -96,7 +96,7 @@ fn lengths() {
     refused(&[0; 8193], 1, 0);
     refused(&[0; 8199], 1, 0);
     refused(&[0; 8200], 2, 0);
-    let yields = bytes("0 yield");
+    let yields = bytes("0 yield\n");
     refused(&yields.repeat(1024), 13, 512);
     let answer = Answer::Cooperable { records: 512, transactions: 512 };
     assert_eq!(judged(&yields.repeat(512)), (answer, yields.repeat(512)));
@@ -105,7 +105,7 @@ fn lengths() {
 
 #[test]
 fn the_program_judges_the_first_8200_bytes() {
-    let yields = bytes("0 yield");
+    let yields = bytes("0 yield\n");
     assert_eq!(report(&yields.repeat(1025)), "refused 2 0\n");
     assert_eq!(report(&yields.repeat(4000)), "refused 2 0\n");
     assert_eq!(report(&vec![0; 8205]), "refused 2 0\n");
@@ -146,56 +146,56 @@ fn numbers_5_to_7() {
 #[test]
 fn numbers_8_to_12() {
     let refused = |text: &str, number, record| refused(&bytes(text), number, record);
-    refused("1 yield", 8, 0);
-    refused("0 fork 1; 0 join 1; 1 yield", 8, 2);
-    refused("0 fork 1; 1 join 0; 0 yield", 8, 2);
-    refused("0 acquire m0; 0 prewait m0; 0 yield", 9, 2);
-    refused("0 acquire m0; 0 prewait m0; 0 postwait m1", 9, 2);
-    refused("0 acquire m0; 0 prewait m0; 0 join 0", 9, 2);
-    refused("0 postwait m0", 9, 0);
-    refused("0 fork 1; 0 acquire m0; 0 prewait m0; 1 acquire m0; 0 postwait m0", 10, 4);
-    refused("0 fork 1; 0 acquire m0; 1 acquire m0", 10, 2);
-    refused("0 release m0", 10, 0);
-    refused("0 fork 1; 1 acquire m0; 0 notify m0", 10, 2);
-    refused("0 fork 1; 1 acquire m0; 0 prewait m0", 10, 2);
-    refused("0 fork 0", 11, 0);
-    refused("0 fork 1; 1 fork 1", 11, 1);
-    refused("0 join 0", 11, 0);
-    refused("0 join 1", 11, 0);
-    refused("0 write v255 65535; 0 read v255 65534", 12, 1);
+    refused("1 yield\n", 8, 0);
+    refused("0 fork 1\n0 join 1\n1 yield\n", 8, 2);
+    refused("0 fork 1\n1 join 0\n0 yield\n", 8, 2);
+    refused("0 acquire 0\n0 prewait 0\n0 yield\n", 9, 2);
+    refused("0 acquire 0\n0 prewait 0\n0 postwait 1\n", 9, 2);
+    refused("0 acquire 0\n0 prewait 0\n0 join 0\n", 9, 2);
+    refused("0 postwait 0\n", 9, 0);
+    refused("0 fork 1\n0 acquire 0\n0 prewait 0\n1 acquire 0\n0 postwait 0\n", 10, 4);
+    refused("0 fork 1\n0 acquire 0\n1 acquire 0\n", 10, 2);
+    refused("0 release 0\n", 10, 0);
+    refused("0 fork 1\n1 acquire 0\n0 notify 0\n", 10, 2);
+    refused("0 fork 1\n1 acquire 0\n0 prewait 0\n", 10, 2);
+    refused("0 fork 0\n", 11, 0);
+    refused("0 fork 1\n1 fork 1\n", 11, 1);
+    refused("0 join 0\n", 11, 0);
+    refused("0 join 1\n", 11, 0);
+    refused("0 write 255 65535\n0 read 255 65534\n", 12, 1);
 }
 
 #[test]
 fn number_13() {
-    let before = "0 yield;".repeat(512);
-    refused(&bytes(&format!("{before} 0 write v0 1")), 13, 512);
-    let known = "0 write v0 0; 0 yield;".to_string() + &"0 yield;".repeat(511);
-    refused(&bytes(&format!("{known} 0 read v0 1")), 12, 513);
-    let joins = format!("0 fork 1; {}", "0 join 1;".repeat(512));
+    let before = "0 yield\n".repeat(512);
+    refused(&bytes(&format!("{before}0 write 0 1\n")), 13, 512);
+    let known = "0 write 0 0\n0 yield\n".to_string() + &"0 yield\n".repeat(511);
+    refused(&bytes(&format!("{known}0 read 0 1\n")), 12, 513);
+    let joins = format!("0 fork 1\n{}", "0 join 1\n".repeat(512));
     refused(&bytes(&joins), 13, 512);
 }
 
 #[test]
 fn a_refusal_comes_before_any_violation() {
-    refused(&bytes(&format!("{P3}; 0 read v0 7")), 12, 4);
+    refused(&bytes(&format!("{P3}0 read 0 7\n")), 12, 4);
     // The first yield ends transaction 0; the one at record 4 + n begins number 1 + n.
-    refused(&bytes(&format!("{P3}; {}", "0 yield;".repeat(600))), 13, 515);
+    refused(&bytes(&format!("{P3}{}", "0 yield\n".repeat(600))), 13, 515);
 }
 
 #[test]
 fn what_the_machine_allows() {
-    cooperable("0 fork 1; 1 acquire m0; 0 join 1; 0 join 1", 4, &[0, 1, 2, 3]);
-    cooperable("0 fork 1; 1 acquire m0; 1 prewait m0; 0 join 1", 3, &[0, 1, 2, 3]);
-    cooperable("0 fork 1; 1 join 0", 2, &[0, 1]);
+    cooperable("0 fork 1\n1 acquire 0\n0 join 1\n0 join 1\n", 4, &[0, 1, 2, 3]);
+    cooperable("0 fork 1\n1 acquire 0\n1 prewait 0\n0 join 1\n", 3, &[0, 1, 2, 3]);
+    cooperable("0 fork 1\n1 join 0\n", 2, &[0, 1]);
     // A thread that did nothing: the join stays behind the fork.
-    cooperable("0 fork 1; 0 fork 2; 0 yield; 2 join 1", 2, &[0, 1, 2, 3]);
+    cooperable("0 fork 1\n0 fork 2\n0 yield\n2 join 1\n", 2, &[0, 1, 2, 3]);
 }
 
 #[test]
 fn the_lowest_thread_goes_first() {
     // The transactions of threads 2 and 1 do not conflict.
     cooperable(
-        "0 fork 2; 0 fork 1; 0 yield; 2 write v0 1; 1 write v1 1; 2 write v0 2",
+        "0 fork 2\n0 fork 1\n0 yield\n2 write 0 1\n1 write 1 1\n2 write 0 2\n",
         3,
         &[0, 1, 2, 4, 3, 5],
     );
@@ -204,13 +204,13 @@ fn the_lowest_thread_goes_first() {
 #[test]
 fn the_cycle_closes_as_soon_as_it_can_and_goes_by_the_lowest() {
     // 0 has edges to 1 and 2; both lead back; only 1, the lower, is gone through.
-    violation("0 fork 1; 0 fork 2; 1 write v1 1; 2 write v2 1; 0 read v1 1", 4, &[0, 1]);
+    violation("0 fork 1\n0 fork 2\n1 write 1 1\n2 write 2 1\n0 read 1 1\n", 4, &[0, 1]);
     // Transaction 1 has an edge to 2, but none to 0 yet; so the cycle goes on.
     violation(
-        "0 fork 1; 0 fork 2; 1 write v1 1; 2 read v1 1; 2 write v2 1; 0 read v2 1",
+        "0 fork 1\n0 fork 2\n1 write 1 1\n2 read 1 1\n2 write 2 1\n0 read 2 1\n",
         5,
         &[0, 1, 2],
     );
     // Transaction 1 does not lead back: it is left out.
-    violation("0 fork 1; 0 fork 2; 1 write v1 1; 2 write v2 1; 0 read v2 1", 4, &[0, 2]);
+    violation("0 fork 1\n0 fork 2\n1 write 1 1\n2 write 2 1\n0 read 2 1\n", 4, &[0, 2]);
 }
