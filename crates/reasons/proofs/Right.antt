@@ -5,7 +5,7 @@ use mathlib.Core.Path.{_≡_, refl, sym, ap, ap₂, _∙_, subst}
 use mathlib.Core.Logic.{_⊎_, inl, inr, ⊎-elim}
 use mathlib.Core.Bool.{Bool, true, false}
 use mathlib.Core.List.{List, [], _∷_}
-use lib.ListN.{length}
+use lib.ListN.{length, getD}
 use lib.Dec.{ltb}
 use borrow.Author.Tests.{ltb-true, ltb-false}
 use Rattle.record.specs.declared.Event.{Event}
@@ -17,10 +17,12 @@ use Rattle.checker.specs.Refusals.{refusal, events}
 use Rattle.checker.specs.Judged.{judged}
 use Rattle.checker.specs.Demand3.{numbersIn}
 use Rattle.checker.proofs.Demand3.{is-cooperable, is-violation, numbers-are, refused-keeps}
+use Rattle.reasons.specs.declared.Reason.{Reason}
+use Rattle.reasons.specs.declared.Reason.the-variants.{Thread, Variable, Lock, ForkJoin}
 use Rattle.reasons.specs.declared.Cause.{Cause}
 use Rattle.reasons.specs.declared.Told.{Told}
 use Rattle.reasons.specs.declared.Told.the-variants.{Because, NoSuchEdge, Refused}
-use Rattle.reasons.specs.Why.{causeAt, toldOf, told, numbers}
+use Rattle.reasons.specs.Why.{nameOf, numberOf, causeAt, toldOf, told, Numbers, numbers}
 use Rattle.reasons.specs.Meaning.{answer, cycle, Explained, Right}
 use Rattle.reasons.proofs.Causes.{explained}
 
@@ -131,3 +133,28 @@ module _ (input out work : List ℕ) (p : ℕ) where
       go (suc n) e m q = when-refused n e
       go zero e zero q = when-cooperable e q
       go zero e (suc k) q = by (ltb p (length (cycleOf es (suc k)))) (when-edge e k q) (when-past e k q)
+
+-- ---- what is told has one meaning: the same numbers are the same answer
+
+abbrev reasonBy : ℕ → ℕ → Reason
+reasonBy name n = getD (Thread n ∷ Variable n ∷ Lock n ∷ ForkJoin n ∷ []) name (Thread n)
+
+reason-by : (r : Reason) → reasonBy (nameOf r) (numberOf r) ≡ r
+reason-by (Thread t) = refl
+reason-by (Variable x) = refl
+reason-by (Lock m) = refl
+reason-by (ForkJoin u) = refl
+
+abbrev toldBy : Numbers → Told
+toldBy n =
+    let value : ℕ → ℕ = λ i. getD (n .values) i 0 in
+    getD (Because (record { first = value 0; second = value 1; reason = reasonBy (value 2) (value 3) }) ∷ NoSuchEdge ∷ Refused (record { number = value 0; «record» = value 1 }) ∷ [])
+    (n .kind) NoSuchEdge
+
+told-by : (t : Told) → toldBy (numbers t) ≡ t
+told-by (Because c) = ap (λ r. Because (record { first = c .first; second = c .second; reason = r })) (reason-by (c .reason))
+told-by NoSuchEdge = refl
+told-by (Refused r) = refl
+
+pub told-same : (t u : Told) → numbers t ≡ numbers u → t ≡ u
+told-same t u e = sym (told-by t) ∙ ap toldBy e ∙ told-by u
