@@ -86,7 +86,7 @@ static void refused_early(struct recording *r, size_t records) {
 /* The last record reads a value that isn't there. */
 static void refused_late(struct recording *r, size_t records) {
     typical(r, records - 1);
-    add(r, 0, READ, 255, 1);
+    add(r, 0, FORK, 0, 0);
 }
 
 static void empty(struct recording *r, size_t records) {
