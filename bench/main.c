@@ -5,14 +5,11 @@
 
 #include "plain.h"
 #include "recordings.h"
+#include "timing.h"
 
 int printf(const char *, ...);
 int memcmp(const void *, const void *, size_t);
-struct timespec { long seconds, nanoseconds; };
-int clock_gettime(int, struct timespec *);
-enum { PROCESSOR_TIME = 2 };
-
-enum { SIZES = 4, ROUNDS = 31, SHAPES = 16, WORK = QUELOHUITE_WORK };
+enum { SIZES = 4, SHAPES = 16, WORK = QUELOHUITE_WORK };
 static const size_t sizes[SIZES] = {128, 256, 512, 1024};
 
 typedef struct quelohuite_answer judge_function(
@@ -22,12 +19,6 @@ static struct recording recording;
 static uint8_t output[2][QUELOHUITE_MOST_INPUT];
 static uint64_t work[2][WORK];
 static double ours[SHAPES][SIZES], plain[SHAPES][SIZES];
-
-static double now(void) {
-    struct timespec time;
-    clock_gettime(PROCESSOR_TIME, &time);
-    return (double)time.seconds * 1e9 + (double)time.nanoseconds;
-}
 
 static struct quelohuite_answer call(judge_function *judge, int side) {
     return judge(recording.bytes, 8 * recording.records, output[side], sizeof output[side],
@@ -44,25 +35,9 @@ static int agree(void) {
            memcmp(work[0], work[1], sizeof work[0]) == 0;
 }
 
-static double batch(judge_function *judge, size_t times) {
-    double start = now();
-    for (size_t i = 0; i < times; i++) call(judge, 0);
-    return (now() - start) / (double)times;
-}
-
-static double least(double a, double b) { return a < b ? a : b; }
-
-/* The least of some rounds, the two in turns, and each first in every other round. */
-static void measure(double *ours_least, double *plain_least) {
-    size_t times = 1;
-    while (times < 1000000 && batch(plain_judge, times) * (double)times < 2e6) times *= 2;
-    *ours_least = *plain_least = 1e18;
-    for (int round = 0; round < ROUNDS; round++) {
-        if (round % 2 == 0) *ours_least = least(*ours_least, batch(quelohuite_judge, times));
-        *plain_least = least(*plain_least, batch(plain_judge, times));
-        if (round % 2 == 1) *ours_least = least(*ours_least, batch(quelohuite_judge, times));
-    }
-}
+static void call_ours(void) { call(quelohuite_judge, 0); }
+static void call_plain(void) { call(plain_judge, 0); }
+static timed *const sides[2] = {call_ours, call_plain};
 
 static void print_growth(void) {
     printf("\ngrowth of ours (and of C) from size to size: 2 is in proportion, 4 is by the square\n");
@@ -97,7 +72,10 @@ int main(void) {
                 printf("%s, %lu records: the two differ\n", shapes[s].name, (unsigned long)sizes[size]);
                 return 1;
             }
-            measure(&ours[s][size], &plain[s][size]);
+            double least[2];
+            time_in_turns(sides, least, 2);
+            ours[s][size] = least[0];
+            plain[s][size] = least[1];
             printf("%-24s %7lu %12.2f %12.2f %10.2f\n", shapes[s].name,
                    (unsigned long)recording.records, ours[s][size] / 1e3, plain[s][size] / 1e3,
                    ours[s][size] / plain[s][size]);

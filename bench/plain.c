@@ -222,29 +222,43 @@ static size_t write_cycle(const struct history *h, const uint64_t *rows, size_t 
 
 /* ---- the serial trace */
 
-static int available(const uint64_t *row, const uint64_t *taken, size_t t) {
-    for (size_t w = 0; w < WORDS; w++) {
-        uint64_t allowed = taken[w] | (w == t / 64 ? (uint64_t)1 << (t % 64) : 0);
-        if (row[w] & ~allowed) return 0;
-    }
-    return 1;
+/* Of each thread its next transaction, and how many ancestors of that one aren't taken, itself
+   included: 0 where the thread has none left. */
+struct counts {
+    size_t next[THREADS];
+    size_t left[THREADS];
+};
+
+static void find_next(const struct history *h, const uint64_t *rows, const uint64_t *taken,
+                      struct counts *c, size_t thread, size_t from) {
+    size_t t = from, left = 0;
+    while (t < h->transactions && (h->thread_of[t] != thread || bit(taken, t))) t++;
+    if (t < h->transactions)
+        for (int w = 0; w < WORDS; w++)
+            left += (size_t)__builtin_popcountll(rows[WORDS * t + w] & ~taken[w]);
+    c->next[thread] = t;
+    c->left[thread] = left;
 }
 
-static size_t next_in_order(const struct history *h, const uint64_t *rows, const uint64_t *taken) {
-    size_t best = TRANSACTIONS;
-    for (size_t t = 0; t < h->transactions; t++) {
-        if (bit(taken, t) || !available(rows + WORDS * t, taken, t)) continue;
-        if (best == TRANSACTIONS || h->thread_of[t] < h->thread_of[best]) best = t;
-    }
-    return best;
+static void take(const struct history *h, const uint64_t *rows, uint64_t *taken,
+                 struct counts *c, size_t thread) {
+    size_t t = c->next[thread];
+    set_bit(taken, t);
+    for (size_t u = 0; u < THREADS; u++)
+        if (c->left[u] != 0 && bit(rows + WORDS * c->next[u], t)) c->left[u]--;
+    find_next(h, rows, taken, c, thread, t + 1);
 }
 
 static void write_trace(const struct history *h, const uint64_t *rows, uint8_t *output) {
     uint64_t taken[WORDS] = {0};
+    struct counts c;
     size_t written = 0;
+    for (size_t thread = 0; thread < THREADS; thread++) find_next(h, rows, taken, &c, thread, 0);
     for (size_t n = 0; n < h->transactions; n++) {
-        size_t t = next_in_order(h, rows, taken);
-        set_bit(taken, t);
+        size_t thread = 0;
+        while (c.left[thread] != 1) thread++;
+        size_t t = c.next[thread];
+        take(h, rows, taken, &c, thread);
         for (size_t i = 0; i < h->records; i++)
             if (h->owner[i] == t) encode(&h->events[i], output + RECORD * written++);
     }

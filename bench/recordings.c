@@ -54,14 +54,22 @@ static void typical(struct recording *r, size_t records) {
     }
 }
 
-/* Sixteen threads write one variable and yield: an edge between every two transactions. */
-static void dense(struct recording *r, size_t records) {
+/* Sixteen threads in turn make half as many transactions as there are records: 512 of 1,024. Each
+   accesses one variable and yields; the last ones, where no more records are left, only yield. */
+static void many_yields(struct recording *r, size_t records, unsigned kind, unsigned variables) {
     begin(r, 16);
-    for (unsigned turn = 0; r->records < records; turn++) {
-        add(r, turn % 16, WRITE, 0, turn);
-        if (r->records < records) add(r, turn % 16, YIELD, 0, 0);
+    for (size_t left = records / 2 - 1; left > 0; left--) {
+        unsigned turn = (unsigned)(records / 2 - 1 - left), thread = turn % 16;
+        if (records - r->records > left) add(r, thread, kind, thread % variables, 0);
+        add(r, thread, YIELD, 0, 0);
     }
 }
+
+/* All write one variable: an edge between every two transactions. */
+static void dense(struct recording *r, size_t records) { many_yields(r, records, WRITE, 1); }
+
+/* Each reads what is its thread's alone: few edges. */
+static void sparse(struct recording *r, size_t records) { many_yields(r, records, READ, 16); }
 
 /* Every transaction is on the cycle that the last record closes. */
 static void long_cycle(struct recording *r, size_t records) {
@@ -85,22 +93,14 @@ static void refused_early(struct recording *r, size_t records) {
 
 /* The last record reads a value that isn't there. */
 static void refused_late(struct recording *r, size_t records) {
-    typical(r, records - 1);
-    add(r, 0, FORK, 0, 0);
+    typical(r, records - 2);
+    add(r, 0, WRITE, 255, 0);
+    add(r, 0, READ, 255, 1);
 }
 
 static void empty(struct recording *r, size_t records) {
     (void)records;
     r->records = 0;
-}
-
-/* Sixteen threads read what is theirs alone and yield: many transactions, few edges. */
-static void many_yields(struct recording *r, size_t records) {
-    begin(r, 16);
-    for (unsigned turn = 0; r->records < records; turn++) {
-        add(r, turn % 16, READ, turn % 16, 0);
-        if (r->records < records) add(r, turn % 16, YIELD, 0, 0);
-    }
 }
 
 /* Each thread writes one variable again and again, and then the next does: all pairs conflict. */
@@ -117,11 +117,19 @@ static void one_variable_in_turn(struct recording *r, size_t records) {
     for (unsigned turn = 0; r->records < records; turn++) add(r, turn % 16, WRITE, 0, 1);
 }
 
+void close_cycle(struct recording *r) {
+    r->records -= 4;
+    add(r, 1, WRITE, 200, 1);
+    add(r, 2, READ, 200, 1);
+    add(r, 2, WRITE, 201, 1);
+    add(r, 1, READ, 201, 1);
+}
+
 const struct shape shapes[] = {
     {"typical", typical},
-    {"dense", dense},
     {"long cycle", long_cycle},
-    {"many yields", many_yields},
+    {"many yields, sparse", sparse},
+    {"many yields, dense", dense},
     {"one variable, by thread", one_variable},
     {"one variable, in turn", one_variable_in_turn},
     {"refused late", refused_late},

@@ -19,6 +19,10 @@ struct shape {
     void (*make)(struct recording *, size_t records);
 };
 
+/* Other last four records, with which the last closes a cycle. For recordings that leave the variables
+   200 and 201 alone and in which threads 1 and 2 run. */
+void close_cycle(struct recording *);
+
 extern const struct shape shapes[];
 extern const size_t shape_count;
 
