@@ -1,5 +1,6 @@
 //! The library's functions, with their answers said as the reference says them.
 
+use reference::why::{Reason, Why};
 use reference::Answer;
 
 /// The proved checker.
@@ -13,19 +14,19 @@ pub fn judge(input: &[u8], out: &mut [u8], work: &mut [u64]) -> Answer {
     }
 }
 
-/// Stand-in until the export is there.
-pub fn why(input: &[u8], out: &mut [u8], work: &mut [u64], place: usize) -> reference::why::Why {
-    use reference::why::{reasons, Reasons, Why};
-    static LAST: std::sync::Mutex<Option<(Vec<u8>, Reasons)>> = std::sync::Mutex::new(None);
-    match judge(input, out, work) {
-        Answer::Refused { number, record } => Why::Refused { number, record },
-        _ => {
-            let mut last = LAST.lock().unwrap();
-            if last.as_ref().is_none_or(|(i, _)| i != input) {
-                let said = reasons(input, &mut vec![0; input.len()], &mut [0; 4096]);
-                *last = Some((input.to_vec(), said));
-            }
-            last.as_ref().unwrap().1.at(place as u64)
+/// The edge at a place of the reported cycle.
+pub fn why(input: &[u8], out: &mut [u8], work: &mut [u64], place: usize) -> Why {
+    match quelohuite::why(input, out, work, place) {
+        quelohuite::Told::Because { first, second, reason } => {
+            let (reason, number) = match reason {
+                quelohuite::Reason::Thread(thread) => (Reason::Thread, thread),
+                quelohuite::Reason::Variable(variable) => (Reason::Variable, variable),
+                quelohuite::Reason::Lock(lock) => (Reason::Lock, lock),
+                quelohuite::Reason::ForkJoin(thread) => (Reason::ForkJoin, thread),
+            };
+            Why::Because { first, second, reason, number }
         }
+        quelohuite::Told::NoSuchEdge => Why::NoSuchEdge,
+        quelohuite::Told::Refused { number, record } => Why::Refused { number, record },
     }
 }
