@@ -3,7 +3,7 @@ use Prim.Native.Nat.{ℕ, zero, suc, _-_, _/_, _≤_}
 use native.Mathlib.Omega.{arith}
 use mathlib.Core.Path.{_≡_, refl, sym, ap, ap₂, _∙_, subst}
 use mathlib.Core.Logic.{_≢_}
-use mathlib.Core.Bool.{Bool, true, false, _&&_}
+use mathlib.Core.Bool.{true, false, _&&_}
 use mathlib.Core.List.{List, [], _∷_, map}
 use lib.Dec.{leb}
 use lib.ListN.{length, take, drop, replicate, length-append, length-drop}
@@ -24,7 +24,7 @@ use Rattle.checker.specs.declared.Answer.{Answer}
 use Rattle.checker.specs.declared.Answer.the-variants.{Refused}
 use Rattle.checker.specs.declared.Refusal.{Refusal}
 use Rattle.checker.specs.Verdict.{Numbers, numbers, verdict}
-use Rattle.checker.specs.Refusals.{sizeChecks, Run, start, onwards, recordChecks, Fault, noFault, firstRefusal, recordsOf, refusal, events}
+use Rattle.checker.specs.Refusals.{sizeChecks, Run, start, onwards, recordChecks, firstRefusal, recordsOf, refusal, events}
 use Rattle.checker.specs.Judged.{Judged, judged}
 use Rattle.checker.specs.declared.Examined.{Examined}
 use Rattle.checker.specs.Examined.{Examination, examined, asFault}

@@ -1,12 +1,12 @@
 -- `checker::report` meets its contract: the sizes, then all records, then the arrangement, then what is written.
-use Prim.Native.Nat.{ℕ, _/_, _≤_}
+use Prim.Native.Nat.{ℕ, _/_}
 use native.Mathlib.Omega.{arith}
-use mathlib.Core.Path.{_≡_, refl, sym, ap, _∙_}
+use mathlib.Core.Path.{_≡_, refl, sym, _∙_}
 use mathlib.Core.List.{List}
 use lib.ListN.{length, take}
 use Rattle.record.specs.declared.Event.{Event}
 use Rattle.record.specs.Faults.{firstFault}
-use Rattle.checker.specs.Refusals.{sizeChecks, events}
+use Rattle.checker.specs.Refusals.{sizeChecks}
 use Rattle.checker.proofs.Refusing.{size-refused}
 use Rattle.checker.proofs.Reporting.{judged-refused, reported-refused, found-refusal, all-found, order-long, ready, judged-whole}
 use borrow.Author.Needs.{needs}
