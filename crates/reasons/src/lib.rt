@@ -1,5 +1,4 @@
 // Why an edge of the reported cycle is there: the two records that make it, and on what they conflict.
-mod reading;
 mod reasoning;
 mod searching;
 mod telling;
@@ -9,7 +8,7 @@ use checker::Refusal;
 ghost use mathlib.Core.Path.{_≡_};
 ghost use Rattle.checker.specs.Verdict as Verdict;
 ghost use Rattle.checker.specs.Judged.{Judged, judged};
-ghost use Rattle.reasons.specs.Why.{numbers, Asked, asked};
+ghost use Rattle.reasons.specs.Why.{nameOf, numberOf, numbers, Asked, asked};
 ghost use Rattle.reasons.specs.Lines.{explained};
 
 // On what two operations conflict: the thread, variable or lock of both, or the thread that one of them forks or joins.
@@ -18,6 +17,30 @@ pub enum Reason {
     Variable(u8),
     Lock(u8),
     ForkJoin(u8),
+}
+
+// A reason's number, by its place in the order thread, variable, lock, fork/join.
+pub fn name_of(reason: Reason) -> u16
+    ensures { λ r. ⌜ r ≡ nameOf reason ⌝ }
+{
+    match reason {
+        Reason::Thread(_) => 0,
+        Reason::Variable(_) => 1,
+        Reason::Lock(_) => 2,
+        Reason::ForkJoin(_) => 3,
+    }
+}
+
+// Which thread, variable or lock it is.
+pub fn number_of(reason: Reason) -> u16
+    ensures { λ r. ⌜ r ≡ numberOf reason ⌝ }
+{
+    match reason {
+        Reason::Thread(thread) => thread as u16,
+        Reason::Variable(var) => var as u16,
+        Reason::Lock(lock) => lock as u16,
+        Reason::ForkJoin(child) => child as u16,
+    }
 }
 
 // What makes an edge: two records, and the reason.
@@ -50,7 +73,8 @@ pub fn why(input: &[u8], out: &mut [u8], work: &mut [u64], place: usize) -> Told
                 return Told::NoSuchEdge;
             }
             let mut labels = [0u16; 1024];
-            let all = reading::read(input, record + 1, &mut labels);
+            let examined = checker::examine(input, &mut labels);
+            let all = examined.all;
             Told::Because(searching::cause_at(all, &labels, record + 1, &*out, length, place))
         }
     }
@@ -66,7 +90,8 @@ pub fn explain(input: &[u8], out: &mut [u8], work: &mut [u64], lines: &mut [u16;
     match answer {
         Answer::Violation { record, length } => {
             let mut labels = [0u16; 1024];
-            let all = reading::read(input, record + 1, &mut labels);
+            let examined = checker::examine(input, &mut labels);
+            let all = examined.all;
             telling::write_lines(all, &labels, record + 1, &*out, length, lines);
         }
         Answer::Cooperable {
