@@ -6,3 +6,5 @@ pub mod Walk
 pub mod Gathering
 pub mod Right
 pub mod Sources
+pub mod Searching
+pub mod Looping

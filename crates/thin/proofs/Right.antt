@@ -5,7 +5,7 @@
 --   taken-right    one record more that closes none is taken in
 --   taken-stands   one record more is taken in, cycle or not: the rows stand for the edges with it
 --   taken-row      so row t says who has a path to the record's transaction t
---   taken-rest     and the numbers past the square stay
+--   taken-kept     and the numbers past the square stay
 use Prim.Native.Nat.{ℕ, _<_, _≤_}
 use native.Mathlib.Omega.{arith}
 use mathlib.Core.Path.{_≡_, refl, sym, ap, ap₂, _∙_, subst}
@@ -14,7 +14,7 @@ use mathlib.Core.Bool.{true, false, cond, _&&_, _||_}
 use mathlib.Core.List.{List, [], _∷_, _++_}
 use borrow.Author.Tests.{lt-ltb}
 use lib.Dec.{T, eqb, eqb-refl}
-use lib.ListN.{length, drop}
+use lib.ListN.{length}
 use Rattle.record.specs.declared.Event.{Event}
 use Rattle.trace.specs.Lists.{someOf}
 use Rattle.trace.specs.Paths.{hasEdge, Path, reaches, cyclic}
@@ -28,7 +28,7 @@ use Rattle.graph.specs.Edges.{edges}
 use Rattle.graph.specs.Engine.{Stands}
 use Rattle.graph.proofs.Ends.{has-pair}
 use Rattle.graph.proofs.Numbers.{bounded-edges}
-use Rattle.graph.proofs.Standing.{begun-stands}
+use Rattle.graph.proofs.Standing.{Kept, begun-stands}
 use Rattle.graph.proofs.Steps.{among-none, among-first, among-split, before-first}
 use Rattle.thin.specs.Cells.{Cells, idle, sources, stored, closing, closedRows, takenAs, taken}
 use Rattle.thin.specs.Thin.{sourcesOf, cellsFrom, cellsAfter, thin}
@@ -55,11 +55,11 @@ begun-holds work long = record {
   none = refl;
 }
 
--- of orderly events, all but the last
-orderly-first : (es : List Event) (e : Event) → Orderly (es ++ (e ∷ [])) → Orderly es
-orderly-first es e ok = record {
-  ranges = λ x m. ok .ranges x (among-first es (e ∷ []) m);
-  pairs = λ x y o. ok .pairs x y (before-first es (e ∷ []) o);
+-- the first of orderly events
+pub orderly-first : (es rest : List Event) → Orderly (es ++ rest) → Orderly es
+orderly-first es rest ok = record {
+  ranges = λ x m. ok .ranges x (among-first es rest m);
+  pairs = λ x y o. ok .pairs x y (before-first es rest o);
 }
 
 module _ (xs : List Labelled) (x : Labelled) (ok : Orderly (eventsIn (xs ++ (x ∷ [])))) where
@@ -73,7 +73,7 @@ module _ (xs : List Labelled) (x : Labelled) (ok : Orderly (eventsIn (xs ++ (x �
   bs = sourcesOf (cellsAfter xs) x
 
   before : Orderly (eventsIn xs)
-  before = orderly-first (eventsIn xs) (x .event) (subst (λ l. Orderly l) (map-append (λ y. y .event) xs (x ∷ [])) ok)
+  before = orderly-first (eventsIn xs) (x .event ∷ []) (subst (λ l. Orderly l) (map-append (λ y. y .event) xs (x ∷ [])) ok)
 
   -- a source has an edge to t: by the engine's edges, and so by 01's
   source-edge : (b : ℕ) → Among b bs → T (hasEdge (edges all) b t)
@@ -157,10 +157,10 @@ module _ (xs : List Labelled) (x : Labelled) (ok : Orderly (eventsIn (xs ++ (x �
       pub taken-row : (b : ℕ) → b < 512 → has (taken s work n t (x .event) .rows) t b ≡ reaches (edges all) b t
       taken-row b hb = taken-stands .is b t hb in-t
 
-      -- the numbers past the square stay
-      pub taken-rest : drop 4096 (taken s work n t (x .event) .rows) ≡ drop 4096 work
-      taken-rest = ap (drop 4096) rows-are
-          ∙ closed-kept work (edges xs) (edges all) (holds .stands) t n in-t in-n bs source-small source-other goal beyond looks .rest
+      -- as many numbers as before, and those past the square stay
+      pub taken-kept : Kept work (taken s work n t (x .event) .rows)
+      taken-kept = subst (λ w. Kept work w) (sym rows-are)
+          (closed-kept work (edges xs) (edges all) (holds .stands) t n in-t in-n bs source-small source-other goal beyond looks)
 
       -- A record that closes no cycle is taken in
       pub taken-right : (k : ℕ) → m ≤ k → t < k → k ≤ 512 → cyclic (edges all) ≡ false

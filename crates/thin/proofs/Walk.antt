@@ -153,17 +153,18 @@ fits-of past lives x y s fit m = record {
   ended = λ f j e. two lives y (s .size) fit (sym (s .joined x m j) ∙ ap (lifeOf lives) e ∙ fresh lives y (s .size) fit f);
 }
 
-walk-on : (lives : List ℕ) (y : Event) (es : List Event) → T (orderlyFrom lives (y ∷ es)) → T (fitting lives y) × T (orderlyFrom (livesAfter lives y) es)
+pub orderly-on : (lives : List ℕ) (y : Event) (es : List Event) → fitting lives y ≡ true → orderlyFrom lives (y ∷ es) ≡ orderlyFrom (livesAfter lives y) es
 unfolding orderlyFrom
-walk-on lives y es t = by (fitting lives y)
-    (λ e. (T-of e, subst T (goes e) t))
-    (λ e. absurd (subst T (stops e) t))
-  where
-    goes : fitting lives y ≡ true → orderlyFrom lives (y ∷ es) ≡ orderlyFrom (livesAfter lives y) es
-    goes e = rw (e, orderlyFrom)
+orderly-on lives y es e = rw (e, orderlyFrom)
 
-    stops : fitting lives y ≡ false → orderlyFrom lives (y ∷ es) ≡ false
-    stops e = rw (e, orderlyFrom)
+pub orderly-off : (lives : List ℕ) (y : Event) (es : List Event) → fitting lives y ≡ false → orderlyFrom lives (y ∷ es) ≡ false
+unfolding orderlyFrom
+orderly-off lives y es e = rw (e, orderlyFrom)
+
+walk-on : (lives : List ℕ) (y : Event) (es : List Event) → T (orderlyFrom lives (y ∷ es)) → T (fitting lives y) × T (orderlyFrom (livesAfter lives y) es)
+walk-on lives y es t = by (fitting lives y)
+    (λ e. (T-of e, subst T (orderly-on lives y es e) t))
+    (λ e. absurd (subst T (orderly-off lives y es e) t))
 
 -- each event to come is in range and fits to each behind it; and so among themselves
 record Ahead (past es : List Event) : Type 0 where

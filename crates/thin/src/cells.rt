@@ -13,7 +13,7 @@ pub fn entry(part: &[u16], at: usize) -> u16
     if at < part.len() { part[at] } else { 0 }
 }
 
-fn set_entry<'a>(part: &'a mut [u16], at: usize, number: u16)
+pub fn set_entry<'a>(part: &'a mut [u16], at: usize, number: u16)
     ensures { λ _. ⌜ now (part .exit) ≡ set (now (part .entry)) at number ⌝ }
 {
     if at < part.len() {

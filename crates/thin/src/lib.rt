@@ -1,9 +1,17 @@
 // The second engine: for each lock, thread and variable the last transaction, and rows of ancestors that are closed as edges arrive.
 mod cells;
 mod gather;
+mod search;
+mod suiting;
 
+use graph::Arranged;
 use record::Event;
 ghost use mathlib.Core.Path.{_≡_};
+ghost use mathlib.Core.Bool.{_&&_};
+ghost use Prim.Native.Nat.{_≤_, min};
+ghost use lib.ListN.{take};
+ghost use Rattle.graph.specs.Arranged.{Arrangement, fits, arranged};
+ghost use Rattle.thin.specs.Orderly.{orderly};
 ghost use Rattle.thin.specs.Cells.{cellsOf, closing, takenAs, taken};
 
 // Whether an event of transaction a closes a cycle: a reaches one of its sources, by the rows. A cell holds 0, or a transaction and 1.
@@ -63,4 +71,47 @@ pub fn take<'a>(
         a,
         e,
     );
+}
+
+// How many events count of them are, at most all 1,024.
+fn at_most_all(count: usize) -> usize
+    ensures { λ r. ⌜ r ≡ min count 1024 ⌝ }
+{
+    if count < 1024 {
+        return count;
+    }
+    1024
+}
+
+// Whether the engine takes the first count events, with this work area: they fit, and they are orderly.
+fn suits(all: [Event; 1024], count: usize, work: &[u64]) -> bool
+    requires { ⌜ count ≤ 1024 ⌝ }
+    ensures { λ r. ⌜ r ≡ (fits (take count all) (now (work .entry)) && orderly (take count all)) ⌝ }
+{
+    if work.len() < 4096 {
+        return false;
+    }
+    if suiting::few(all, count) {
+        return suiting::orderly(all, count);
+    }
+    false
+}
+
+// Arranges the first count of the events as `graph::arrange` does, to the same promise: by the second engine where it takes them, else by the first.
+pub fn arrange(
+    all: [Event; 1024],
+    count: usize,
+    order: &mut [u16; 512],
+    work: &mut [u64],
+) -> Arranged
+    ensures { λ r. ⌜ _≡_ {A = Arrangement} (record { answer = r; order = now (order .exit); work = now (work .exit) })
+        (arranged (take count all) (now (order .entry)) (now (work .entry))) ⌝ }
+{
+    let number = at_most_all(count);
+    if suits(all, number, work) {
+        rows::begin(work);
+        let prefix = search::search(all, number, work);
+        return graph::finish(all, number, prefix, order, work);
+    }
+    graph::arrange(all, count, order, work)
 }
