@@ -20,19 +20,19 @@ use Rattle.graph.proofs.Numbers.{count-begun, count-unbegun, tally-rise
 
 -- what an operation counts as: it is full, or its transaction
 module _ (s : Tally) (e : Event) where
-  number-of : (t : ℕ) → numbered s e ≡ Number.Of t → (belongs s e ≡ t) × (counted s e ≡ tallied s e) × (full s e ≡ false)
+  pub number-of : (t : ℕ) → numbered s e ≡ Number.Of t → (belongs s e ≡ t) × (counted s e ≡ tallied s e) × (full s e ≡ false)
   unfolding numbered counted
   number-of t q = by (full s e)
       (λ f. let z : _≡_ {A = ℕ} 0 1 = cc (ap (λ b. cond b Number.Full (Number.Of (belongs s e))) f, q) in absurd (omega arith))
       (λ f. ((cc (ap (λ b. cond b Number.Full (Number.Of (belongs s e))) f, q)), ap (λ b. cond b s (tallied s e)) f, f))
 
-  number-full : numbered s e ≡ Number.Full → (begins s e ≡ true) × (transactionLimit ≤ s .count)
+  pub number-full : numbered s e ≡ Number.Full → (begins s e ≡ true) × (transactionLimit ≤ s .count)
   unfolding numbered full
   number-full q = by (begins s e && leb transactionLimit (s .count))
       (λ f. (T-is (begins s e) (and-left (begins s e) (leb transactionLimit (s .count)) (T-of f)), leb→le transactionLimit (s .count) (and-right (begins s e) (leb transactionLimit (s .count)) (T-of f))))
       (λ f. let z : _≡_ {A = ℕ} 0 1 = cc (ap (λ b. cond b Number.Full (Number.Of (belongs s e))) f, q) in absurd (omega arith))
 
-  count-few : full s e ≡ false → s .count ≤ transactionLimit → tallied s e .count ≤ transactionLimit
+  pub count-few : full s e ≡ false → s .count ≤ transactionLimit → tallied s e .count ≤ transactionLimit
   unfolding full
   count-few f h = by (begins s e)
       (λ b. omega (arith, count-begun s e b, leb-false transactionLimit (s .count) (sym (ap (λ c. c && leb transactionLimit (s .count)) b) ∙ f)))

@@ -1,0 +1,264 @@
+-- The walk over the records finds the shortest prefix with a cycle, and leaves the rows by which the order or the cycle is named.
+use Prim.Native.Nat.{ℕ, suc, _<_, _≤_, _^_}
+use native.Mathlib.Omega.{arith}
+use mathlib.Core.Path.{_≡_, refl, sym, ap, ap₂, _∙_, subst}
+use mathlib.Core.Bool.{true, false, cond}
+use mathlib.Core.List.{List, [], _∷_, _++_, map, append-nil}
+use borrow.Author.Tests.{ne-eqb}
+use lib.Dec.{eqb, leb, leb→le}
+use lib.ListN.{length, getD, take, length-append}
+use lib.Seq.{append-snoc, take-at, getD-at}
+use Rattle.record.specs.declared.Event.{Event}
+use Rattle.trace.specs.Lists.{from}
+use Rattle.trace.specs.Paths.{reaches, cyclic}
+use Rattle.trace.proofs.Tests.{by, by-same, T-of, T-is, and-left, and-right}
+use Rattle.trace.proofs.Lists.{Among, first-default, first-is, from-le, from-bound, map-append}
+use Rattle.rows.specs.Bits.{has, begun}
+use Rattle.rows.proofs.Laws.{length-begun, rest-begun}
+use Rattle.graph.specs.Transactions.{Tally, none-yet, begins, belongs, tallied, full, Labelled, labelledFrom, labelled, tallyFrom, transactions, transactionLimit}
+use Rattle.graph.specs.Edges.{edges}
+use Rattle.graph.specs.Violation.{edgesUpTo, cyclicUpTo, shortest, transactionAt}
+use Rattle.graph.specs.Engine.{labelledAs, Stands}
+use Rattle.graph.proofs.Arranging.{Ready}
+use Rattle.graph.proofs.Labels.{labelled-events}
+use Rattle.graph.proofs.Numbers.{sane-none, labels-lt, tally-rises, count-rises, count-begun}
+use Rattle.graph.proofs.Standing.{Kept, kept-then}
+use Rattle.graph.proofs.Steps.{among-end}
+use Rattle.thin.specs.Cells.{Cells, idle, closing, Taken, taken}
+use Rattle.thin.specs.Engine.{looked, Searched, searchedAs, searchedFrom, searched}
+use Rattle.thin.proofs.Meet.{Orderly}
+use Rattle.thin.proofs.Agree.{eventsIn}
+use Rattle.thin.proofs.Right.{Holds, begun-holds, orderly-first, closing-right, Looks, looks-all, looks-first, taken-row, taken-kept, taken-right}
+
+-- ---- one record
+
+module _ (tally : Tally) (s : Cells) (work : List ℕ) (k : ℕ) (e : Event) (es : List Event) where
+  abbrev next : Taken
+  next = taken s work (looked (belongs tally e) (tally .count)) (belongs tally e) e
+
+  -- it would begin a 513th transaction
+  pub searched-full : full tally e ≡ true → searchedFrom tally s work k (e ∷ es) ≡ searchedAs 0 work
+  unfolding searchedFrom
+  searched-full f = rw (f, searchedFrom)
+
+  -- it closes a cycle
+  pub searched-hit : full tally e ≡ false → closing s work (belongs tally e) e ≡ true → searchedFrom tally s work k (e ∷ es) ≡ searchedAs (suc k) (next .rows)
+  unfolding searchedFrom
+  searched-hit f c = rw (f, c, searchedFrom)
+
+  -- it closes none
+  pub searched-on : full tally e ≡ false → closing s work (belongs tally e) e ≡ false
+      → searchedFrom tally s work k (e ∷ es) ≡ searchedFrom (tallied tally e) (next .cells) (next .rows) (suc k) es
+  unfolding searchedFrom
+  searched-on f c = rw (f, c, searchedFrom)
+
+-- ---- labels and counts of one run of events after another
+
+labelled-append : (s : Tally) (u v : List Event) → labelledFrom s (u ++ v) ≡ labelledFrom s u ++ labelledFrom (tallyFrom s u) v
+unfolding labelledFrom tallyFrom
+labelled-append s [] v = refl
+labelled-append s (e ∷ u) v = ap (λ l. labelledAs (belongs s e) e ∷ l) (labelled-append (tallied s e) u v)
+
+tally-append : (s : Tally) (u v : List Event) → tallyFrom s (u ++ v) ≡ tallyFrom (tallyFrom s u) v
+unfolding tallyFrom
+tally-append s [] v = refl
+tally-append s (e ∷ u) v = tally-append (tallied s e) u v
+
+length-snoc : (u : List Event) (e : Event) → length (u ++ (e ∷ [])) ≡ suc (length u)
+length-snoc u e = omega (arith, length-append u (e ∷ []))
+
+-- ---- the walk
+
+-- what the walk must answer and leave of es
+pub record Found (es : List Event) (start : List ℕ) (r : Searched) : Type 0 where
+  pub first : r .prefix ≡ shortest es
+  pub stands : r .prefix ≡ 0 → Stands (r .rows) (edges (labelled es))
+  pub row : (k : ℕ) → r .prefix ≡ suc k → (b : ℕ) → b < 512 → has (r .rows) (transactionAt es k) b ≡ reaches (edgesUpTo es (suc k)) b (transactionAt es k)
+  pub kept : Kept start (r .rows)
+
+-- where it stands with the records `done` behind it
+record Standing (es : List Event) (start : List ℕ) (done : List Event) (s : Cells) (work : List ℕ) : Type 0 where
+  holds : Holds (labelled done) s work (tallyFrom none-yet done .count)
+  none : (j : ℕ) → 1 ≤ j → j ≤ length done → cyclicUpTo es j ≡ false
+  kept : Kept start work
+
+-- nothing is left
+found-none : (es : List Event) (start : List ℕ) (s : Cells) (work : List ℕ) → Standing es start es s work → Found es start (searchedAs 0 work)
+unfolding shortest
+found-none es start s work at = record {
+  first = sym (first-default (cyclicUpTo es) 0 (from 1 (length es)) (λ j m. at .none j (from-le 1 (length es) j m) (omega (arith, from-bound 1 (length es) j m))));
+  stands = λ z. at .holds .stands;
+  row = λ k q. absurd (omega arith);
+  kept = at .kept;
+}
+
+-- one record e more, with `rest` after it
+module _ (start : List ℕ) (done : List Event) (e : Event) (rest : List Event) (s : Cells) (work : List ℕ) (ok : Orderly (done ++ (e ∷ []) ++ rest))
+    (few : transactions (done ++ (e ∷ []) ++ rest) ≤ transactionLimit) (at : Standing (done ++ (e ∷ []) ++ rest) start done s work) where
+  abbrev es : List Event
+  es = done ++ (e ∷ []) ++ rest
+
+  abbrev tally : Tally
+  tally = tallyFrom none-yet done
+
+  abbrev a : ℕ
+  a = belongs tally e
+
+  abbrev xs : List Labelled
+  xs = labelled done
+
+  abbrev x : Labelled
+  x = labelledAs a e
+
+  labels-more : labelled (done ++ (e ∷ [])) ≡ xs ++ (x ∷ [])
+  unfolding labelledFrom
+  labels-more = labelled-append none-yet done (e ∷ [])
+
+  tally-more : tallyFrom none-yet (done ++ (e ∷ [])) ≡ tallied tally e
+  unfolding tallyFrom
+  tally-more = tally-append none-yet done (e ∷ [])
+
+  few-more : tallied tally e .count ≤ transactionLimit
+  unfolding transactions
+  few-more = omega (arith, few, tally-rises (tallyFrom none-yet (done ++ (e ∷ []))) rest, ap (λ u. u .count) (tally-append none-yet (done ++ (e ∷ [])) rest), ap (λ u. u .count) tally-more)
+
+  not-full : full tally e ≡ false
+  unfolding full
+  not-full = by (full tally e)
+      (λ f. let b : begins tally e ≡ true = T-is (begins tally e) (and-left (begins tally e) (leb transactionLimit (tally .count)) (T-of f)) in
+      let h : transactionLimit ≤ tally .count = leb→le transactionLimit (tally .count) (and-right (begins tally e) (leb transactionLimit (tally .count)) (T-of f)) in
+      absurd (omega (arith, count-begun tally e b, few-more)))
+      (λ f. f)
+
+  below-count : a < tallied tally e .count
+  below-count = subst (λ u. a < u .count) tally-more (labels-lt none-yet (done ++ (e ∷ [])) sane-none x (subst (λ l. Among x l) (sym labels-more) (among-end xs x)))
+
+  in-a : a < 512
+  in-a = omega (arith, below-count, few-more)
+
+  fits : Orderly (eventsIn (xs ++ (x ∷ [])))
+  fits = subst (λ l. Orderly l) (sym (ap eventsIn (sym labels-more) ∙ labelled-events none-yet (done ++ (e ∷ [])))) (orderly-first (done ++ (e ∷ [])) rest ok)
+
+  -- the first records of all
+  prefix-is : take (suc (length done)) es ≡ done ++ (e ∷ [])
+  prefix-is = take-at (done ++ (e ∷ [])) rest (suc (length done)) (length-snoc done e)
+
+  edges-are : edgesUpTo es (suc (length done)) ≡ edges (xs ++ (x ∷ []))
+  unfolding edgesUpTo
+  edges-are = ap (λ l. edges (labelled l)) prefix-is ∙ ap edges labels-more
+
+  cyclic-is : closing s work a e ≡ cyclicUpTo es (suc (length done))
+  unfolding cyclicUpTo
+  cyclic-is = closing-right xs x fits s work (tally .count) (at .holds) in-a ∙ ap cyclic (sym edges-are)
+
+  -- the rows to look at are enough
+  abbrev n : ℕ
+  n = looked a (tally .count)
+
+  in-n : n ≤ 512
+  unfolding looked
+  in-n = by (eqb a (tally .count))
+      (λ q. omega (arith, ap (λ b. cond b 0 (tally .count)) q))
+      (λ q. omega (arith, ap (λ b. cond b 0 (tally .count)) q, at .holds .most))
+
+  looks : Looks xs x fits s work (tally .count) (at .holds) in-a n
+  unfolding looked
+  looks = by-same a (tally .count)
+      (λ q. looks-first xs x fits s work (tally .count) (at .holds) in-a n (λ y m z. omega (arith, at .holds .few y m)))
+      (λ ne. looks-all xs x fits s work (tally .count) (at .holds) in-a n (omega (arith, ap (λ b. cond b 0 (tally .count)) (ne-eqb a (tally .count) ne))))
+
+  abbrev after : Taken
+  after = taken s work n a e
+
+  kept-after : Kept start (after .rows)
+  kept-after = let k : Kept work (after .rows) = taken-kept xs x fits s work (tally .count) (at .holds) in-a n in-n looks in
+      kept-then start work (after .rows) (at .kept) (k .size) (k .rest)
+
+  transaction-is : transactionAt es (length done) ≡ a
+  unfolding transactionAt labelledFrom
+  transaction-is =
+      ap (λ l. getD (map (λ y. y .transaction) l) (length done) 0) (labelled-append none-yet (done ++ (e ∷ [])) rest ∙ ap (λ l. l ++ labelledFrom (tallyFrom none-yet (done ++ (e ∷ []))) rest) labels-more ∙ append-snoc xs x later)
+      ∙ ap (λ l. getD l (length done) 0) (map-append (λ y. y .transaction) xs (x ∷ later))
+      ∙ getD-at (map (λ y. y .transaction) xs) a (map (λ y. y .transaction) later) 0 (length done) sizes
+    where
+      later : List Labelled
+      later = labelledFrom (tallyFrom none-yet (done ++ (e ∷ []))) rest
+
+      length-map : (l : List Labelled) → length (map (λ y. y .transaction) l) ≡ length l
+      length-map [] = refl
+      length-map (y ∷ l) = ap suc (length-map l)
+
+      length-labels : (u : Tally) (l : List Event) → length (labelledFrom u l) ≡ length l
+      length-labels u [] = refl
+      length-labels u (y ∷ l) = ap suc (length-labels (tallied u y) l)
+
+      sizes : length (map (λ y. y .transaction) xs) ≡ length done
+      sizes = length-map xs ∙ length-labels none-yet done
+
+  -- it closes a cycle
+  found-hit : closing s work a e ≡ true → Found es start (searchedAs (suc (length done)) (after .rows))
+  unfolding shortest
+  found-hit c = record {
+    first = sym (first-is (cyclicUpTo es) 0 1 (length es) (suc (length done)) (omega arith) (omega (arith, length-append (done ++ (e ∷ [])) rest, length-snoc done e)) (sym cyclic-is ∙ c)
+        (λ j lo hi. at .none j lo (omega arith)));
+    stands = λ z. absurd (omega arith);
+    row = λ k q b hb. let same : length done ≡ k = omega arith in
+        subst (λ m. has (after .rows) (transactionAt es m) b ≡ reaches (edgesUpTo es (suc m)) b (transactionAt es m)) same
+        (subst (λ t. has (after .rows) t b ≡ reaches (edgesUpTo es (suc (length done))) b t) (sym transaction-is)
+        (taken-row xs x fits s work (tally .count) (at .holds) in-a n in-n looks b hb ∙ ap (λ g. reaches g b a) (sym edges-are)));
+    kept = kept-after;
+  }
+
+  -- it closes none
+  standing-on : closing s work a e ≡ false → Standing es start (done ++ (e ∷ [])) (after .cells) (after .rows)
+  standing-on c = record {
+    holds = subst (λ u. Holds (labelled (done ++ (e ∷ []))) (after .cells) (after .rows) (u .count)) (sym tally-more)
+        (subst (λ l. Holds l (after .cells) (after .rows) (tallied tally e .count)) (sym labels-more)
+        (taken-right xs x fits s work (tally .count) (at .holds) in-a n in-n looks (tallied tally e .count) (count-rises tally e) below-count few-more
+        (sym (closing-right xs x fits s work (tally .count) (at .holds) in-a) ∙ c)));
+    none = λ j lo hi. by-same j (suc (length done))
+        (λ q. ap (cyclicUpTo es) q ∙ sym cyclic-is ∙ c)
+        (λ ne. at .none j lo (omega (arith, length-snoc done e)));
+    kept = kept-after;
+  }
+
+search-from : (start : List ℕ) (rest done : List Event) (s : Cells) (work : List ℕ) → Orderly (done ++ rest) → transactions (done ++ rest) ≤ transactionLimit
+    → Standing (done ++ rest) start done s work → Found (done ++ rest) start (searchedFrom (tallyFrom none-yet done) s work (length done) rest)
+unfolding searchedFrom
+search-from start [] done s work ok few at =
+    subst (λ l. Found l start (searchedAs 0 work)) (sym (append-nil done)) (found-none done start s work (subst (λ l. Standing l start done s work) (append-nil done) at))
+search-from start (e ∷ rest) done s work ok few at =
+    let q : done ++ (e ∷ []) ++ rest ≡ done ++ e ∷ rest = append-snoc done e rest in
+    let ok′ : Orderly (done ++ (e ∷ []) ++ rest) = subst (λ l. Orderly l) (sym q) ok in
+    let few′ : transactions (done ++ (e ∷ []) ++ rest) ≤ transactionLimit = subst (λ l. transactions l ≤ transactionLimit) (sym q) few in
+    let at′ : Standing (done ++ (e ∷ []) ++ rest) start done s work = subst (λ l. Standing l start done s work) (sym q) at in
+    let tally : Tally = tallyFrom none-yet done in
+    let after : Taken = taken s work (looked (belongs tally e) (tally .count)) (belongs tally e) e in
+    let open-ended : full tally e ≡ false = not-full start done e rest s work ok′ few′ at′ in
+    subst (λ l. Found l start (searchedFrom tally s work (length done) (e ∷ rest))) q
+    (by (closing s work (belongs tally e) e)
+    (λ c. subst (λ r. Found (done ++ (e ∷ []) ++ rest) start r) (sym (searched-hit tally s work (length done) e rest open-ended c)) (found-hit start done e rest s work ok′ few′ at′ c))
+    (λ c. subst (λ r. Found (done ++ (e ∷ []) ++ rest) start r)
+    (sym (searched-on tally s work (length done) e rest open-ended c
+    ∙ ap₂ (λ u k. searchedFrom u (after .cells) (after .rows) k rest) (sym (tally-more start done e rest s work ok′ few′ at′)) (sym (length-snoc done e))))
+    (search-from start rest (done ++ (e ∷ [])) (after .cells) (after .rows) ok′ few′ (standing-on start done e rest s work ok′ few′ at′ c))))
+
+-- The walk from the beginning
+pub searched-right : (es : List Event) → Orderly es → transactions es ≤ transactionLimit → (start : List ℕ) → 4096 ≤ length start → Found es start (searched es (begun start))
+unfolding searched none-yet labelledFrom tallyFrom
+searched-right es ok few start long = search-from start es [] idle (begun start) ok few (record {
+  holds = begun-holds start long;
+  none = λ j lo hi. absurd (omega arith);
+  kept = record { size = length-begun start long; rest = rest-begun start long };
+})
+
+-- and so what `finish` needs
+pub found-ready : (es : List Event) (start : List ℕ) (r : Searched) → Found es start r → ((i : ℕ) → getD (r .rows) i 0 < 2 ^ 64) → Ready es (r .prefix) start (r .rows)
+found-ready es start r f small = record {
+  first = f .first;
+  stands = f .stands;
+  row = f .row;
+  small = small;
+  size = f .kept .size;
+  rest = f .kept .rest;
+}
