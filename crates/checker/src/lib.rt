@@ -17,6 +17,13 @@ ghost use Rattle.checker.specs.Report.{reported};
 ghost use Rattle.checker.specs.Concluded.{Told};
 ghost use Rattle.checker.specs.Examined.{inputChecks, Examination, examined, asFault};
 
+// What finds the cycle or the order: the plain engine, which compares each record with all before it, or the second, which asks who touched the same
+// last. Their promise is the same.
+pub enum Engine {
+    Plain,
+    Thin,
+}
+
 // Why a recording is refused: the number, and the record that it is given at.
 pub struct Refusal {
     pub number: u8,
@@ -80,12 +87,21 @@ fn size_fault(input: &[u8], out: &[u8], work: &[u64]) -> u8
     0
 }
 
-// Arranges the first count of the events, as `graph::arrange` says: the one place where an engine is asked.
-fn arrange(all: [Event; 1024], count: usize, order: &mut [u16; 512], work: &mut [u64]) -> Arranged
+// Arranges the first count of the events, by either engine: the one place where an engine is asked.
+fn arrange(
+    all: [Event; 1024],
+    count: usize,
+    order: &mut [u16; 512],
+    work: &mut [u64],
+    engine: Engine,
+) -> Arranged
     ensures { λ r. ⌜ _≡_ {A = Arrangement} (record { answer = r; order = now (order .exit); work = now (work .exit) })
         (arranged (take count all) (now (order .entry)) (now (work .entry))) ⌝ }
 {
-    graph::arrange(all, count, order, work)
+    match engine {
+        Engine::Plain => graph::arrange(all, count, order, work),
+        Engine::Thin => thin::arrange(all, count, order, work),
+    }
 }
 
 // Judges a recording. `labels` then has the transaction of each record, and the front of `order` those that the answer names.
@@ -95,6 +111,7 @@ fn judge_with(
     work: &mut [u64],
     labels: &mut [u16; 1024],
     order: &mut [u16; 512],
+    engine: Engine,
 ) -> Judgement
     requires { ⌜ length (now order) ≡ 512 ⌝ }
     ensures { λ r. ⌜ (_≡_ {A = Judged} (record { answer = numbers (r .answer); out = now (out .exit); work = now (work .exit) })
@@ -115,20 +132,26 @@ fn judge_with(
         return Judgement { answer, all };
     }
     let count = input.len() / 8;
-    let found = arrange(all, count, order, work);
+    let found = arrange(all, count, order, work, engine);
     let answer = concluding::conclude(found, all, &*labels, count, &*order, out);
     Judgement { answer, all }
 }
 
-// Judges a recording as `judge` does, and tells each transaction that the answer names: three numbers, in serial order or cycle order.
-pub fn report(input: &[u8], out: &mut [u8], work: &mut [u64], lines: &mut [u16; 1536]) -> Answer
+// Judges a recording as `judge_by` does, and tells each transaction that the answer names: three numbers, in serial order or cycle order.
+pub fn report_by(
+    input: &[u8],
+    out: &mut [u8],
+    work: &mut [u64],
+    lines: &mut [u16; 1536],
+    engine: Engine,
+) -> Answer
     ensures { λ r. ⌜ (_≡_ {A = Judged} (record { answer = numbers r; out = now (out .exit); work = now (work .exit) })
         (judged (now (input .entry)) (now (out .entry)) (now (work .entry))))
         × (now (lines .exit) ≡ reported (now (input .entry)) (now (out .entry)) (now (work .entry)) (now (lines .entry))) ⌝ }
 {
     let mut labels = [0u16; 1024];
     let mut order = [0u16; 512];
-    let judgement = judge_with(input, out, work, &mut labels, &mut order);
+    let judgement = judge_with(input, out, work, &mut labels, &mut order, engine);
     let answer = judgement.answer;
     let named = concluding::named(answer);
     if named == 0 {
@@ -140,13 +163,30 @@ pub fn report(input: &[u8], out: &mut [u8], work: &mut [u64], lines: &mut [u16; 
     answer
 }
 
-// Judges a recording: the answer, the output and the work area at the end.
-pub fn judge(input: &[u8], out: &mut [u8], work: &mut [u64]) -> Answer
+// Judges a recording by either engine: the answer, the output and the work area at the end.
+pub fn judge_by(input: &[u8], out: &mut [u8], work: &mut [u64], engine: Engine) -> Answer
     ensures { λ r. ⌜ _≡_ {A = Judged} (record { answer = numbers r; out = now (out .exit); work = now (work .exit) })
         (judged (now (input .entry)) (now (out .entry)) (now (work .entry))) ⌝ }
 {
     let mut labels = [0u16; 1024];
     let mut order = [0u16; 512];
-    let judgement = judge_with(input, out, work, &mut labels, &mut order);
+    let judgement = judge_with(input, out, work, &mut labels, &mut order, engine);
     judgement.answer
+}
+
+// Judges and reports by the plain engine.
+pub fn report(input: &[u8], out: &mut [u8], work: &mut [u64], lines: &mut [u16; 1536]) -> Answer
+    ensures { λ r. ⌜ (_≡_ {A = Judged} (record { answer = numbers r; out = now (out .exit); work = now (work .exit) })
+        (judged (now (input .entry)) (now (out .entry)) (now (work .entry))))
+        × (now (lines .exit) ≡ reported (now (input .entry)) (now (out .entry)) (now (work .entry)) (now (lines .entry))) ⌝ }
+{
+    report_by(input, out, work, lines, Engine::Plain)
+}
+
+// Judges by the plain engine.
+pub fn judge(input: &[u8], out: &mut [u8], work: &mut [u64]) -> Answer
+    ensures { λ r. ⌜ _≡_ {A = Judged} (record { answer = numbers r; out = now (out .exit); work = now (work .exit) })
+        (judged (now (input .entry)) (now (out .entry)) (now (work .entry))) ⌝ }
+{
+    judge_by(input, out, work, Engine::Plain)
 }

@@ -1,4 +1,4 @@
--- `checker::report` meets its contract: the judgement leaves what the lines need.
+-- `checker::report_by` meets its contract: the judgement leaves what the lines need.
 use Prim.Native.Nat.{ℕ, _/_, _≤_, _<_}
 use native.Mathlib.Omega.{arith}
 use mathlib.Core.Path.{sym, ap, _∙_}
@@ -10,8 +10,8 @@ use Rattle.checker.specs.Writing.{lineOf}
 use Rattle.checker.specs.Concluded.{namedIn}
 use Rattle.checker.proofs.Reporting.{told-none}
 use borrow.Author.Needs.{needs}
-use Rattle.checker.proofs.report.Statement.{statement}
-use Rattle.checker.proofs.report.Tie as tie
+use Rattle.checker.proofs.report_by.Statement.{statement}
+use Rattle.checker.proofs.report_by.Tie as tie
 
 judge-with-requires : tie.Need-judge-with-requires
 judge-with-requires c κs = search needs
@@ -66,8 +66,8 @@ returns-2 c =
       c .write-lines .ensures ∙ ap (λ n. over (each f (take n (j .last .1 .1 .1 .1 .0))) (a .lines .now)) (c .before .before .before .before .before .before .named .ensures) ∙ j .ensures .1 .lines-are (a .lines .now),
     )
 
-pub report-spec : {M : Type 1} → statement M
-report-spec =
+pub report-by-spec : {M : Type 1} → statement M
+report-by-spec =
     tie.close
     (tie.spec
     judge-with-requires
