@@ -162,9 +162,9 @@ impl Run {
                 Err(_) => self.fail(&case, &|case| places::compared(case).err()),
             }
         }
-        let Asked { edges, past_the_end, refused } = asked;
+        let Asked { edges, past_the_end, refused, longest } = asked;
         println!(
-            "of asked by place: {edges} edges, {past_the_end} past the end, {refused} refused"
+            "of asked by place: {edges} edges (cycles to {longest}), {past_the_end} past the end, {refused} refused"
         );
     }
 
