@@ -4,6 +4,7 @@ mod case;
 mod damage;
 mod edges;
 mod fixed;
+mod graphviz;
 mod histories;
 mod library;
 mod numbers;
@@ -19,6 +20,7 @@ mod small;
 mod swapped;
 mod tally;
 mod texts;
+mod writing;
 
 use std::process::ExitCode;
 

@@ -33,6 +33,10 @@ impl Program {
         Program::find("from_text", reference::text::from_text)
     }
 
+    pub fn dot() -> Result<Program, String> {
+        Program::find("dot", reference::dot::report)
+    }
+
     /// Finds the program in target/bin and a way to run it: by itself, by the kit's loader, or, on
     /// a processor other than x86-64, by the kit's emulator.
     fn find(name: &'static str, expected: Expected) -> Result<Program, String> {

@@ -3,8 +3,10 @@
 use std::time::Instant;
 
 use reference::words::words_of_bytes;
+use reference::WORK_AREA;
 
 use crate::case::Case;
+use crate::graphviz::Graphviz;
 use crate::numbers::Numbers;
 use crate::options::Options;
 use crate::places::Asked;
@@ -13,10 +15,17 @@ use crate::shrink::shrink;
 use crate::small::alphabets;
 use crate::swapped::{outcome, Outcome};
 use crate::tally::Tally;
-use crate::{edges, fixed, places, recordings, regressions, texts};
+use crate::writing::Writes;
+use crate::{edges, fixed, library, places, recordings, regressions, texts, writing};
 
 /// After so many failures a run stops: the first ones say enough.
 const MOST_FAILURES: u64 = 5;
+
+/// Graphviz takes long for longer pictures: only the longest of all is shown to it.
+const MOST_SHOWN: usize = 20_000;
+
+/// No text or recording that is written is longer.
+const MOST_WRITTEN: usize = 4_000_000;
 
 /// Says in words what a case shows to differ.
 type Differs<'a> = &'a dyn Fn(&Case) -> Option<String>;
@@ -56,6 +65,9 @@ pub fn run(options: &Options) -> u64 {
     if options.text > 0 {
         run.phase("runs of to_text", |run| run.texts_written(options.text, options.seed));
         run.phase("runs of from_text", |run| run.texts_read(options.text, options.seed));
+    }
+    if options.dot > 0 {
+        run.phase("pictures of the graph", |run| run.pictures(options.dot, options.seed));
     }
     run.tally.print();
     // A run of full size has to have met every refusal at every kind of record.
@@ -192,6 +204,67 @@ impl Run {
                 Some(said) => {
                     self.failed += 1;
                     println!("failed on the text\n{}{said}", shown(&input));
+                }
+            }
+        }
+    }
+
+    fn pictures(&mut self, count: u64, seed: u64) {
+        let mut numbers = Numbers::from_seed(seed.rotate_left(24));
+        let mut inputs = kept_and_fixed();
+        inputs.extend(edges::recordings());
+        for _ in 0..count {
+            inputs.extend([recordings::violation(&mut numbers), recordings::any(&mut numbers)]);
+        }
+        self.graphviz(&inputs);
+        if let Some(dot) = library::DOT {
+            self.written(dot, reference::dot::dot, &inputs, &mut numbers);
+        }
+        self.runs(Program::dot(), inputs);
+    }
+
+    /// Graphviz reads each picture as the graph that was meant. Where it isn't installed, this is
+    /// said, and nothing is counted.
+    fn graphviz(&mut self, inputs: &[Vec<u8>]) {
+        let Some(graphviz) = Graphviz::find() else {
+            println!("Graphviz is not installed: no picture is shown to it");
+            return;
+        };
+        let Some(program) = self.found(Program::dot()) else { return };
+        let drawn = |input: &[u8]| {
+            let picture = program.printed(input, 1).ok()?;
+            picture.starts_with(b"digraph").then_some(picture)
+        };
+        let lengths: Vec<usize> =
+            inputs.iter().map(|input| drawn(input).map_or(0, |picture| picture.len())).collect();
+        let longest = lengths.iter().copied().max().unwrap_or(0);
+        let mut shown = 0;
+        for (input, length) in inputs.iter().zip(lengths) {
+            let is_shown = length > 0 && (length <= MOST_SHOWN || length == longest);
+            if is_shown && self.failed < MOST_FAILURES {
+                shown += 1;
+                self.check(&Case::plain(input.clone()), &|case| {
+                    graphviz.difference(&drawn(&case.input)?)
+                });
+            }
+        }
+        println!("of pictures: {shown} read by Graphviz, the longest of {longest} bytes");
+    }
+
+    /// A function of the library that writes, with the output that it needs, more and less.
+    fn written(
+        &mut self,
+        library: Writes,
+        reference: Writes,
+        inputs: &[Vec<u8>],
+        numbers: &mut Numbers,
+    ) {
+        let mut room = vec![0; MOST_WRITTEN];
+        for input in inputs {
+            let needed = reference(input, &mut room, &mut [0; WORK_AREA]).unwrap_or(0);
+            for case in writing::cases(input, needed, numbers) {
+                if self.failed < MOST_FAILURES {
+                    self.check(&case, &|case| writing::compared(case, library, reference));
                 }
             }
         }

@@ -4,6 +4,7 @@
 //! the sentence of document 01 that it follows. It shares nothing with the proved checker.
 
 pub mod conflict;
+pub mod dot;
 pub mod graph;
 mod judge;
 pub mod machine;
@@ -15,5 +16,5 @@ pub mod transactions;
 pub mod why;
 pub mod words;
 
-pub use judge::{faults, judge, possible_history, Answer, MOST_BYTES, WORK_AREA};
+pub use judge::{faults, judge, possible_history, Answer, Refusal, MOST_BYTES, WORK_AREA};
 pub use report::{report, MOST_READ};
