@@ -13,7 +13,7 @@ const USAGE: &str =
                 library (300); 0: none is
   --text N      random recordings, and random texts, through target/bin/to_text and from_text (300);
                 0: the programs are not run
-  --dot N       random violations, and as many recordings of any sort, through target/bin/dot (0), and
+  --dot N       random violations, and as many recordings of any sort, through target/bin/dot (100), and
                 what it prints through Graphviz, if that is installed; 0: the program is not run
   --small N     all small histories (1); 2, 3, ..: longer ones; 0: none
   --fixed N     the fixed recordings (1); 0: none";
@@ -41,7 +41,7 @@ impl Options {
             why: 400,
             places: 300,
             text: 300,
-            dot: 0,
+            dot: 100,
             small: 1,
             fixed: 1,
         }
