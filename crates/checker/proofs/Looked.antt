@@ -77,7 +77,8 @@ module _ (r : Run) (bs : List ℕ) where
   unfolding firstFault
   full-fault h q f = event-passed h q ∙ ap (λ t. firstFault (room t)) f
 
-  no-fault : firstFault (Record.checks bs) ≡ 0 → faultOf (r .state) (event bs) ≡ 0 → full (r .tally) (event bs) ≡ false → firstFault (recordChecks r bs) ≡ 0
+  -- a record that passes all three parts has no fault
+  pub no-fault : firstFault (Record.checks bs) ≡ 0 → faultOf (r .state) (event bs) ≡ 0 → full (r .tally) (event bs) ≡ false → firstFault (recordChecks r bs) ≡ 0
   unfolding firstFault
   no-fault h q f = event-passed h q ∙ ap (λ t. firstFault (room t)) f
 
