@@ -6,3 +6,4 @@ pub mod Walks
 pub mod Bytes
 pub mod Dropped
 pub mod Right
+pub mod Weaving

@@ -1,3 +1,4 @@
 pub mod Walk
 pub mod Proposed
 pub mod Meaning
+pub mod Weaving
