@@ -12,8 +12,8 @@ use Rattle.trace.specs.Paths.{Edge, reaches, cyclic}
 use Rattle.trace.proofs.Tests.{by, by-same, or-and-self}
 use Rattle.trace.proofs.Lists.{Among, some-cons, some-same}
 use Rattle.trace.proofs.Closing.{reaches-goal, reaches-beyond, cyclic-goal}
-use Rattle.rows.specs.Bits.{has, marked, joined, cleared}
-use Rattle.rows.proofs.Laws.{marked-same, marked-other, length-marked, rest-marked, joined-row, joined-other, length-joined, rest-joined, cleared-none}
+use Rattle.rows.specs.Bits.{has, joined, begun}
+use Rattle.rows.proofs.Laws.{length-begun, begun-own, joined-row, joined-other, length-joined, rest-joined}
 use Rattle.graph.specs.Conflict.{conflict}
 use Rattle.graph.specs.Transactions.{Labelled}
 use Rattle.graph.specs.Edges.{makes, edges}
@@ -31,48 +31,9 @@ kept-then u v w k e f = record { size = e ∙ k .size; rest = f ∙ k .rest }
 
 -- ---- no edges: each reaches itself
 
--- the first n bits of the diagonal are set, and no others
-pub record Diagonal (before : List ℕ) (n : ℕ) (after : List ℕ) : Type 0 where
-  pub kept : Kept before after
-  pub bits : (a d : ℕ) → a < 512 → d < 512 → has after d a ≡ (ltb d n && eqb a d)
-
-pub diagonal-none : (w : List ℕ) → 4096 ≤ length w → Diagonal (cleared w) 0 (cleared w)
-diagonal-none w long = record {
-  kept = record { size = refl; rest = refl };
-  bits = λ a d ha hd. cleared-none w long d a hd ha ∙ sym (ap (λ b. b && eqb a d) (le-ltb d 0 (omega arith)));
-}
-
-pub diagonal-more : (w₀ w : List ℕ) (n : ℕ) → 4096 ≤ length w₀ → n < 512 → Diagonal w₀ n w → Diagonal w₀ (suc n) (marked w n n)
-diagonal-more w₀ w n long h D = record {
-  kept = kept-then w₀ w (marked w n n) (D .kept) (length-marked w n n) (rest-marked w n n h h);
-  bits = bits;
-}
-  where
-    wide : 4096 ≤ length w
-    wide = omega (arith, D .kept .size)
-
-    other : (a d : ℕ) → a < 512 → d < 512 → (n ≡ d → n ≡ a → ⊥) → has (marked w n n) d a ≡ (ltb d n && eqb a d)
-    other a d ha hd ne = marked-other w n n h h wide d a ha ne ∙ D .bits a d ha hd
-
-    bits : (a d : ℕ) → a < 512 → d < 512 → has (marked w n n) d a ≡ (ltb d (suc n) && eqb a d)
-    bits a d ha hd = by-same d n
-        (λ e. by-same a n
-        (λ f. ap₂ (λ x y. has (marked w n n) x y) e f ∙ marked-same w n n h h wide
-        ∙ sym (ap₂ (λ x y. x && y) (lt-ltb d (suc n) (omega arith)) (eq-eqb a d (omega arith))))
-        (λ f. other a d ha hd (λ p q. f (sym q))
-        ∙ ap₂ (λ x y. x && y) (le-ltb d n (omega arith)) (ne-eqb a d (λ q. f (omega arith)))
-        ∙ sym (ap₂ (λ x y. x && y) (lt-ltb d (suc n) (omega arith)) (ne-eqb a d (λ q. f (omega arith))))))
-        (λ e. other a d ha hd (λ p q. e (sym p))
-        ∙ ap (λ x. x && eqb a d) (by (ltb d n)
-        (λ t. t ∙ sym (lt-ltb d (suc n) (omega (arith, ltb-true d n t))))
-        (λ t. t ∙ sym (le-ltb d (suc n) (omega (arith, ltb-false d n t))))))
-
-pub diagonal-stands : (w₀ w : List ℕ) → 4096 ≤ length w₀ → Diagonal w₀ 512 w → Stands w []
+pub begun-stands : (w : List ℕ) → 4096 ≤ length w → Stands (begun w) []
 unfolding reaches
-diagonal-stands w₀ w long D = record {
-  long = omega (arith, D .kept .size);
-  is = λ a d ha hd. D .bits a d ha hd ∙ ap (λ b. b && eqb a d) (lt-ltb d 512 hd);
-}
+begun-stands w long = record { long = omega (arith, length-begun w long); is = begun-own w long }
 
 -- ---- one record x of transaction t more
 

@@ -33,7 +33,7 @@ pub among-first : {A : Type 0} {y : A} (l k : List A) → Among y l → Among y 
 among-first (x ∷ l) k Among.top = Among.top
 among-first (x ∷ l) k (Among.deeper m) = Among.deeper (among-first l k m)
 
-before-first : {A : Type 0} {x y : A} (l k : List A) → Before x y l → Before x y (l ++ k)
+pub before-first : {A : Type 0} {x y : A} (l k : List A) → Before x y l → Before x y (l ++ k)
 before-first (z ∷ l) k (Before.now m) = Before.now (among-first l k m)
 before-first (z ∷ l) k (Before.under b) = Before.under (before-first l k b)
 
@@ -41,7 +41,7 @@ pub among-end : {A : Type 0} (l : List A) (x : A) → Among x (l ++ (x ∷ []))
 among-end [] x = Among.top
 among-end (y ∷ l) x = Among.deeper (among-end l x)
 
-before-end : {A : Type 0} {y : A} (l : List A) (x : A) → Among y l → Before y x (l ++ (x ∷ []))
+pub before-end : {A : Type 0} {y : A} (l : List A) (x : A) → Among y l → Before y x (l ++ (x ∷ []))
 before-end (z ∷ l) x Among.top = Before.now (among-end l x)
 before-end (z ∷ l) x (Among.deeper m) = Before.under (before-end l x m)
 
@@ -65,7 +65,7 @@ before-split [] x b f g = absurd (short b)
 before-split (w ∷ l) x (Before.now m) f g = among-split l x m (λ n. f (Before.now n)) (λ e. g Among.top e)
 before-split (w ∷ l) x (Before.under b) f g = before-split l x b (λ c. f (Before.under c)) (λ m e. g (Among.deeper m) e)
 
-makes-of : (y z : Labelled) → y .transaction ≢ z .transaction → T (conflict (y .event) (z .event)) → T (makes y z)
+pub makes-of : (y z : Labelled) → y .transaction ≢ z .transaction → T (conflict (y .event) (z .event)) → T (makes y z)
 unfolding makes
 makes-of y z d c = and-both (not (eqb (y .transaction) (z .transaction))) (conflict (y .event) (z .event)) (not-T (eqb (y .transaction) (z .transaction)) (λ t. d (eqb→eq (y .transaction) (z .transaction) t))) c
 

@@ -53,7 +53,7 @@ pub fn arrange_labelled(
     ensures { λ r. ⌜ _≡_ {A = Arrangement} (record { answer = r; order = now (order .exit); work = now (work .exit) })
         (arranged (take count all) (now (order .entry)) (now (work .entry))) ⌝ }
 {
-    crate::reach::begin(work);
+    rows::begin(work);
     let prefix = crate::reach::first_cycle(work, all, labels, count);
     let answer = name_all(all, labels, count, n, prefix, work, order);
     rows::clear(work);

@@ -11,20 +11,6 @@ ghost use Rattle.graph.specs.Conflict as Conflict;
 ghost use Rattle.graph.specs.Edges.{makes, edges};
 ghost use Rattle.graph.specs.Engine.{labelledAs, held, Few, Stands, Spread, Closed, Sought};
 
-// The rows of no edges: each transaction reaches itself.
-pub fn begin(work: &mut [u64])
-    requires { ⌜ 4096 ≤ length (now work) ⌝ }
-    ensures { λ _. ⌜ Stands (now (work .exit)) [] ⌝ }
-    ensures { λ _. ⌜ drop 4096 (now (work .exit)) ≡ drop 4096 (now (work .entry)) ⌝ }
-{
-    rows::clear(work);
-    let mut a: u16 = 0;
-    while a < 512 {
-        rows::mark(work, a, a);
-        a += 1;
-    }
-}
-
 // Row t is joined into the row of each transaction that t reaches. What is asked first always
 // holds: with it, and with the square alone to test, the compiler leaves out the loop's own checks of places.
 fn spread(work: &mut [u64], t: u16)

@@ -3,19 +3,19 @@ use mathlib.Core.Path.{_≡_, refl, sym, ap, ap₂, _∙_, subst}
 use Prim.Native.Nat.{ℕ, zero, suc, _+_, _-_, _*_, _/_, _%_, _^_, _≤_, _<_, min, max}
 use native.Mathlib.Omega.{arith}
 use native.Mathlib.Nat.{one-mul, pow-suc, div-eq-of-lt, zero-div, max-zero, add-zero, add-suc, div-one, div-div-eq-div-mul}
-use lib.Dec.{T, lit<, eqb}
+use lib.Dec.{T, lit<, eqb, ltb}
 use lib.Pow.{shl-exact, shl-shr, pow-add, pow-lt}
 use lib.Bits.{bitOr, bitXor, differ, or-shr, or-step, xor-shr, xor-step, or-lt, xor-lt}
 use lib.Count.{ones, ones-step, ones-le}
 use mathlib.Core.Bool.{Bool, true, false, cond, not, _&&_, _||_, and-false}
 use mathlib.Core.List.{List, _++_}
 use native.Mathlib.Decide.{decLt, ℕ-discrete}
-use borrow.Author.Tests.{eq-eqb, ne-eqb, le-leb, lt-leb, eqb-true}
+use borrow.Author.Tests.{eq-eqb, ne-eqb, le-leb, lt-leb, eqb-true, ltb-true, ltb-false, lt-ltb, le-ltb}
 use lib.ListN.{length, getD, set, take, drop, replicate, length-set, length-append, length-drop, length-replicate, getD-replicate, List·getD-append}
 use lib.Seq.{getD-take, getD-set-same, getD-set-other, drop-set-lt, drop-at}
-use Rattle.rows.specs.Bits.{bitOf, wordAt, has, marked, holdsRow, joinedTo, joined, cleared, only, beyondTo, beyond}
+use Rattle.rows.specs.Bits.{bitOf, wordAt, has, marked, holdsRow, joinedTo, joined, cleared, diagonalTo, begun, only, beyondTo, beyond}
 use Rattle.trace.specs.Lists.{keep, from, below}
-use Rattle.trace.proofs.Tests.{by}
+use Rattle.trace.proofs.Tests.{by, by-same}
 use Rattle.trace.proofs.Lists.{keep-true, keep-false, count-split, set-le}
 
 -- ---- bits of numbers
@@ -259,6 +259,62 @@ module _ (w : List ℕ) (long : 4096 ≤ length w) where
       ∙ ap (λ (v : ℕ). eqb (bitOf v (b % 64)) 1)
       (List·getD-append (replicate n z) (drop n w) z (wordAt a b) (omega (arith, length-replicate n z)) ∙ getD-replicate n (wordAt a b) z z i)
       ∙ bit-zero (b % 64)
+
+-- ---- the diagonal set
+
+length-diagonal : (n : ℕ) (w : List ℕ) → length (diagonalTo n w) ≡ length w
+unfolding diagonalTo
+length-diagonal zero w = refl
+length-diagonal (suc n) w = length-marked (diagonalTo n w) n n ∙ length-diagonal n w
+
+rest-diagonal : (n : ℕ) (w : List ℕ) → n ≤ 512 → drop 4096 (diagonalTo n w) ≡ drop 4096 w
+unfolding diagonalTo
+rest-diagonal zero w h = refl
+rest-diagonal (suc n) w h = rest-marked (diagonalTo n w) n n (omega arith) (omega arith) ∙ rest-diagonal n w (omega arith)
+
+-- of rows without a bit: row d has its own bit where it is one of the first n
+diagonal-bits : (n : ℕ) (w : List ℕ) → n ≤ 512 → 4096 ≤ length w → ((a d : ℕ) → a < 512 → d < 512 → has w d a ≡ false)
+    → (a d : ℕ) → a < 512 → d < 512 → has (diagonalTo n w) d a ≡ (ltb d n && eqb a d)
+unfolding diagonalTo
+diagonal-bits zero w h long none a d ha hd = none a d ha hd ∙ sym (ap (λ b. b && eqb a d) (le-ltb d 0 (omega arith)))
+diagonal-bits (suc n) w h long none a d ha hd =
+    let before : has v d a ≡ (ltb d n && eqb a d) = diagonal-bits n w (omega arith) long none a d ha hd in
+    by-same d n
+    (λ e. by-same a n
+    (λ f. ap₂ (λ x y. has (marked v n n) x y) e f ∙ marked-same v n n (omega arith) (omega arith) wide
+    ∙ sym (ap₂ (λ x y. x && y) (lt-ltb d (suc n) (omega arith)) (eq-eqb a d (omega arith))))
+    (λ f. other (λ p q. f (sym q)) ∙ before
+    ∙ ap₂ (λ x y. x && y) (le-ltb d n (omega arith)) (ne-eqb a d (λ q. f (omega arith)))
+    ∙ sym (ap₂ (λ x y. x && y) (lt-ltb d (suc n) (omega arith)) (ne-eqb a d (λ q. f (omega arith))))))
+    (λ e. other (λ p q. e (sym p)) ∙ before
+    ∙ ap (λ x. x && eqb a d) (by (ltb d n)
+    (λ t. t ∙ sym (lt-ltb d (suc n) (omega (arith, ltb-true d n t))))
+    (λ t. t ∙ sym (le-ltb d (suc n) (omega (arith, ltb-false d n t))))))
+  where
+    v : List ℕ
+    v = diagonalTo n w
+
+    wide : 4096 ≤ length v
+    wide = omega (arith, length-diagonal n w)
+
+    other : (n ≡ d → n ≡ a → ⊥) → has (marked v n n) d a ≡ has v d a
+    other ne = marked-other v n n (omega arith) (omega arith) wide d a ha ne
+
+module _ (w : List ℕ) (long : 4096 ≤ length w) where
+  pub length-begun : length (begun w) ≡ length w
+  unfolding begun
+  length-begun = length-diagonal 512 (cleared w) ∙ length-cleared w long
+
+  pub rest-begun : drop 4096 (begun w) ≡ drop 4096 w
+  unfolding begun
+  rest-begun = rest-diagonal 512 (cleared w) (omega arith) ∙ rest-cleared w long
+
+  -- each row has its own bit and no other
+  pub begun-own : (a d : ℕ) → a < 512 → d < 512 → has (begun w) d a ≡ eqb a d
+  unfolding begun
+  begun-own a d ha hd =
+      diagonal-bits 512 (cleared w) (omega arith) (omega (arith, length-cleared w long)) (λ b c hb hc. cleared-none w long c b hc hb) a d ha hd
+      ∙ ap (λ b. b && eqb a d) (lt-ltb d 512 hd)
 
 -- ---- the bits of a row that another doesn't have
 

@@ -43,6 +43,15 @@ joined w x y = cond (holdsRow w x && holdsRow w y) (joinedTo 8 w x y) w
 unfoldable pub cleared : List ℕ → List ℕ
 cleared w = replicate (min 4096 (length w)) 0 ++ drop 4096 w
 
+-- with the first n bits of the diagonal set
+unfoldable pub diagonalTo : ℕ → List ℕ → List ℕ
+diagonalTo zero w = w
+diagonalTo (suc n) w = marked (diagonalTo n w) n n
+
+-- the square of rows that have their own bit and no other; of fewer numbers, as far as they go
+unfoldable pub begun : List ℕ → List ℕ
+begun w = diagonalTo 512 (cleared w)
+
 -- the bits of x that y doesn't have
 abbrev pub only : ℕ → ℕ → ℕ
 only x y = bitXor (bitOr x y) y

@@ -1,6 +1,6 @@
 // Rows of bits in a lent slice of 64-bit numbers: row a is the eight numbers from 8 a on.
 ghost use mathlib.Core.Path.{_≡_};
-ghost use Rattle.rows.specs.Bits.{has, marked, joined, cleared, beyond};
+ghost use Rattle.rows.specs.Bits.{has, marked, joined, cleared, begun, beyond};
 
 // Whether the bit at row a and column b is set.
 pub fn test(w: &[u64], a: u16, b: u16) -> bool
@@ -51,6 +51,18 @@ pub fn clear(w: &mut [u64])
     while n < 4096 && n < w.len() {
         w[n] = 0;
         n += 1;
+    }
+}
+
+// Each row of the square has its own bit and no other.
+pub fn begin(w: &mut [u64])
+    ensures { λ _. ⌜ now (w .exit) ≡ begun (now (w .entry)) ⌝ }
+{
+    clear(w);
+    let mut a: u16 = 0;
+    while a < 512 {
+        mark(w, a, a);
+        a += 1;
     }
 }
 
