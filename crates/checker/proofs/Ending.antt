@@ -31,7 +31,7 @@ unfolding each
 each-append f [] m = refl
 each-append f (x ∷ l) m = ap (λ r. f x ++ r) (each-append f l m) ∙ sym (append-assoc (f x) (each f l) (each f m))
 
-each-each : {A B C : Type 0} (f : B → List C) (g : A → List B) (l : List A) → each (λ x. each f (g x)) l ≡ each f (each g l)
+pub each-each : {A B C : Type 0} (f : B → List C) (g : A → List B) (l : List A) → each (λ x. each f (g x)) l ≡ each f (each g l)
 unfolding each
 each-each f g [] = refl
 each-each f g (x ∷ l) = ap (λ r. each f (g x) ++ r) (each-each f g l) ∙ sym (each-append f (g x) (each g l))

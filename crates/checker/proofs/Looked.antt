@@ -25,7 +25,7 @@ use Rattle.graph.specs.Transactions.{Tally, full, belongs, numbered, counted, t
 use Rattle.checker.specs.declared.examining.Seen.{Seen}
 use Rattle.checker.specs.declared.examining.Seen.the-variants.{Sound, Faulty}
 use Rattle.checker.specs.Refusals.{Run, onwards, recordChecks}
-use Rattle.checker.specs.Examined.{seen, Saw}
+use Rattle.checker.specs.Seeing.{seen, Saw}
 
 -- ---- The first fault of a record
 

@@ -24,16 +24,18 @@ use Rattle.checker.specs.declared.Answer.{Answer}
 use Rattle.checker.specs.declared.Answer.the-variants.{Refused}
 use Rattle.checker.specs.declared.Refusal.{Refusal}
 use Rattle.checker.specs.Verdict.{Numbers, numbers, verdict}
-use Rattle.checker.specs.Refusals.{sizeChecks, Run, start, onwards, recordChecks, Fault, noFault, firstRefusal, records, recordsOf, refusal, events}
+use Rattle.checker.specs.Refusals.{sizeChecks, Run, start, onwards, recordChecks, Fault, noFault, firstRefusal, recordsOf, refusal, events}
 use Rattle.checker.specs.Judged.{Judged, judged}
-use Rattle.checker.specs.declared.examining.Examined.{Examined}
-use Rattle.checker.specs.Examined.{Found}
+use Rattle.checker.specs.declared.Examined.{Examined}
+use Rattle.checker.specs.Examined.{Examination, examined, asFault}
 use Rattle.checker.specs.Concluded.{Ready, Concluded}
 use Rattle.checker.specs.Report.{reported}
 use Rattle.checker.specs.Report.{lines as lines-of}
 use Rattle.checker.proofs.Refusing.{Sized, sized, size-passed, refusal-on, refusal-at}
 use Rattle.checker.proofs.Looked.{parts-passed}
 use Rattle.checker.proofs.Ending.{named-serial, named-cycle}
+use Rattle.checker.proofs.Finding.{events-size, input-passed, input-sized, Found, found-refused}
+use Rattle.checker.proofs.Finding.{found as found-in}
 
 -- ---- A recording that is refused, and one that isn't
 
@@ -126,26 +128,22 @@ over-size new old h =
 
 -- ---- From a recording without a refusal to its answer
 
-pub records-size : (n : ℕ) (bs : List ℕ) → length (map event (records n bs)) ≡ n
-unfolding records
-records-size zero bs = refl
-records-size (suc n) bs = ap suc (records-size n (drop 8 bs))
-
-module _ (input out work : List ℕ) (passed : firstFault (sizeChecks input out work) ≡ 0) (labels : List ℕ) (e : Examined) (f : Found input labels e) where
+module _ (input out work : List ℕ) (passed : firstFault (sizeChecks input out work) ≡ 0) (old labels : List ℕ) (e : Examined)
+    (f : _≡_ {A = Examination} (record { refusal = asFault (e .refusal); all = e .all; labels = labels }) (examined input old)) where
   -- refused at a record
-  pub found-refusal : refusal input out work ≡ record { number = e .refusal .number; place = e .refusal .«record» }
-  found-refusal = size-passed input out work passed ∙ sym (f .refusal)
+  pub found-refusal : refusal input out work ≡ asFault (e .refusal)
+  found-refusal =
+      size-passed input out work passed ∙ sym (input-passed input (input-sized input out work passed)) ∙ found-refused input old (asFault (e .refusal)) (e .all) labels f
 
   module _ (none : e .refusal .number ≡ 0) where
+    pub all-found : Found input (e .all) labels
+    all-found = found-in input old (asFault (e .refusal)) (e .all) labels f none
+
     no-refusal : refusal input out work .number ≡ 0
     no-refusal = ap (λ x. x .number) found-refusal ∙ none
 
     few : transactions (events input) ≤ 512
-    few = transactions-few input (ap (λ x. x .number) (sym (f .refusal)) ∙ none)
-
-    events-size : length (events input) ≡ length input / 8
-    unfolding events
-    events-size = records-size (length input / 8) input
+    few = transactions-few input (all-found .fine)
 
     -- what was arranged, over any events that are those
     module _ (es : List Event) (is : es ≡ events input) (a : Arranged) (order o w : List ℕ) (long : length order ≡ 512)
@@ -168,11 +166,11 @@ module _ (input out work : List ℕ) (passed : firstFault (sizeChecks input out 
       pub ready : (lines : List ℕ) → 1536 ≤ length lines → es ≡ take (length input / 8) (e .all) → Ready a es (e .all) labels (length input / 8) o out lines
       ready lines room same =
           let s : Sized input out work = sized input out work passed in
-          let n : length es ≡ length input / 8 = ap length is ∙ events-size in
+          let n : length es ≡ length input / 8 = ap length is ∙ events-size input in
           record {
             size = n;
             most = omega (arith, s .most);
-            labelled-are = f .labelled-are none ∙ ap labelled (sym is);
+            labelled-are = all-found .labelled-are ∙ ap labelled (sym is);
             few = at-most;
             found-is = ap (λ x. x .answer) whole;
             order-size = omega (arith, order-long);

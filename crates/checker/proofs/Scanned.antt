@@ -6,7 +6,7 @@ use mathlib.Core.Path.{_≡_, refl, sym, ap, ap₂, _∙_, subst}
 use mathlib.Core.Logic.{_≢_}
 use mathlib.Core.List.{List, [], _∷_, _++_, map, append-assoc, append-nil}
 use lib.ListN.{length, getD, set, take, drop, replicate, length-drop}
-use lib.Seq.{length-take-le, take-suc-set, drop-drop, getD-set-same, getD-set-other}
+use lib.Seq.{length-take-le, take-suc-set, drop-drop, drop-set-lt, getD-set-same, getD-set-other}
 use Rattle.record.specs.declared.Event.{Event}
 use Rattle.record.specs.Faults.{firstFault}
 use Rattle.record.specs.Record.{event}
@@ -14,12 +14,11 @@ use Rattle.replay.specs.declared.State.{State}
 use Rattle.replay.specs.Machine.{fresh}
 use Rattle.graph.specs.Transactions.{none-yet, Labelled, belongs, tallied, labelledFrom, labelled}
 use Rattle.graph.specs.Engine.{pastEnd, labelledAs, recordAt, held}
-use Rattle.checker.specs.declared.Refusal.{Refusal}
 use Rattle.checker.specs.declared.examining.Seen.{Seen}
 use Rattle.checker.specs.declared.examining.Seen.the-variants.{Sound, Faulty}
-use Rattle.checker.specs.declared.examining.Examined.{Examined}
 use Rattle.checker.specs.Refusals.{Run, start, onwards, recordChecks, records, recordsOf, Fault, noFault, firstRefusal, events}
-use Rattle.checker.specs.Examined.{runOf, Saw, Found}
+use Rattle.checker.specs.Seeing.{runOf, Saw}
+use Rattle.checker.specs.Examined.{noEvent}
 use Rattle.checker.proofs.Refusing.{refusal-on, refusal-at}
 use Rattle.checker.proofs.Looked.{Taken, taken, Stopped, stopped}
 
@@ -73,29 +72,40 @@ append-cons l x m = sym (append-assoc l (x ∷ []) m)
 
 -- ---- The records so far
 
--- the first i records have led to r; their events and transactions are in the arrays
-pub record Under (input : List ℕ) (r : Run) (all : List Event) (labels : List ℕ) (i : ℕ) : Type 0 where
+-- the first i records have led to r; their events and transactions are in the arrays, and the rest of those is as it was
+pub record Under (input old : List ℕ) (r : Run) (all : List Event) (labels : List ℕ) (i : ℕ) : Type 0 where
   pub refused : firstRefusal start 0 (recordsOf input) ≡ firstRefusal r i (restFrom input i)
   pub events-are : events input ≡ take i all ++ map event (restFrom input i)
   pub labelled-are : labelled (events input) ≡ held i all labels ++ labelledFrom (r .tally) (map event (restFrom input i))
+  pub past-events : drop i all ≡ drop i (replicate 1024 noEvent)
+  pub past-labels : drop i labels ≡ drop i old
 
-pub under-start : (input : List ℕ) (s : State) (all : List Event) (labels : List ℕ) → s ≡ fresh
-    → Under input (runOf (s .values) (s .holders) (s .lives) (s .waits) (replicate 16 0) 0) all labels 0
+pub under-start : (input : List ℕ) (s : State) (all : List Event) (labels : List ℕ) → s ≡ fresh → all ≡ replicate 1024 noEvent
+    → Under input labels (runOf (s .values) (s .holders) (s .lives) (s .waits) (replicate 16 0) 0) all labels 0
 unfolding events held start none-yet
-under-start input s all labels h =
-    subst (λ x. Under input (record { state = x; tally = none-yet }) all labels 0) (sym h)
+under-start input s all labels h none =
+    subst (λ x. Under input labels (record { state = x; tally = none-yet }) all labels 0) (sym h)
     (record {
       refused = ap (firstRefusal start 0) (sym (rest-all input));
       events-are = ap (map event) (sym (rest-all input));
       labelled-are = ap (λ l. labelled (map event l)) (sym (rest-all input));
+      past-events = none;
+      past-labels = refl;
     })
 
-module _ (input : List ℕ) (r : Run) (all : List Event) (labels : List ℕ) (i : ℕ) (more : i < length input / 8) (bs : List ℕ) (is : bs ≡ take 8 (drop (8 * i) input)) where
+-- one entry more, and the rest is still as it was
+past-more : {A : Type 0} (l old : List A) (i : ℕ) (x : A) → drop i l ≡ drop i old → drop (suc i) (set l i x) ≡ drop (suc i) old
+past-more {A = A} l old i x h = drop-set-lt (suc i) l i x (omega arith) ∙ one l ∙ ap (drop 1) h ∙ sym (one old)
+  where
+    one : (m : List A) → drop (suc i) m ≡ drop 1 (drop i m)
+    one m = sym (drop-drop 1 i m ∙ ap (λ k. drop k m) (add-one i))
+
+module _ (input old : List ℕ) (r : Run) (all : List Event) (labels : List ℕ) (i : ℕ) (more : i < length input / 8) (bs : List ℕ) (is : bs ≡ take 8 (drop (8 * i) input)) where
   next : restFrom input i ≡ bs ∷ restFrom input (suc i)
   next = rest-next input i more ∙ ap (λ x. x ∷ restFrom input (suc i)) (sym is)
 
-  pub sound-more : i < length all → i < length labels → firstFault (recordChecks r bs) ≡ 0 → Under input r all labels i
-      → Under input (onwards r (event bs)) (set all i (event bs)) (set labels i (belongs (r .tally) (event bs))) (suc i)
+  sound-more : i < length all → i < length labels → firstFault (recordChecks r bs) ≡ 0 → Under input old r all labels i
+      → Under input old (onwards r (event bs)) (set all i (event bs)) (set labels i (belongs (r .tally) (event bs))) (suc i)
   unfolding labelledFrom
   sound-more h k q u =
       let e : Event = event bs in
@@ -107,41 +117,31 @@ module _ (input : List ℕ) (r : Run) (all : List Event) (labels : List ℕ) (i 
         labelled-are = u .labelled-are ∙ ap (λ l. held i all labels ++ labelledFrom (r .tally) (map event l)) next
             ∙ append-cons (held i all labels) (labelledAs a e) (labelledFrom (tallied (r .tally) e) es)
             ∙ ap (λ l. l ++ labelledFrom (tallied (r .tally) e) es) (sym (held-next i all labels e a h k));
+        past-events = past-more all (replicate 1024 noEvent) i e (u .past-events);
+        past-labels = past-more labels old i a (u .past-labels);
       }
 
   -- one more, without a fault
-  pub under-more : (after : Run) (e : Event) (a : ℕ) → i < length all → i < length labels → Under input r all labels i → Saw r bs after (Sound e a)
-      → Under input after (set all i e) (set labels i a) (i + 1)
+  pub under-more : (after : Run) (e : Event) (a : ℕ) → i < length all → i < length labels → Under input old r all labels i → Saw r bs after (Sound e a)
+      → Under input old after (set all i e) (set labels i a) (i + 1)
   under-more after e a h k u s =
       let t : Taken r bs after e a = taken r bs after e a s in
       let x = sound-more h k (t .faultless) u in
-      let y = subst (λ n. Under input (onwards r (event bs)) (set all i (event bs)) (set labels i n) (suc i)) (sym (t .transaction-is)) x in
-      let z = subst (λ n. Under input (onwards r (event bs)) (set all i n) (set labels i a) (suc i)) (sym (t .event-is)) y in
-      let w = subst (λ n. Under input n (set all i e) (set labels i a) (suc i)) (sym (t .after-is)) z in
-      subst (Under input after (set all i e) (set labels i a)) (sym (add-one i)) w
+      let y = subst (λ n. Under input old (onwards r (event bs)) (set all i (event bs)) (set labels i n) (suc i)) (sym (t .transaction-is)) x in
+      let z = subst (λ n. Under input old (onwards r (event bs)) (set all i n) (set labels i a) (suc i)) (sym (t .event-is)) y in
+      let w = subst (λ n. Under input old n (set all i e) (set labels i a) (suc i)) (sym (t .after-is)) z in
+      subst (Under input old after (set all i e) (set labels i a)) (sym (add-one i)) w
 
   -- one with a fault
-  pub under-stop : (after : Run) (n : ℕ) → Under input r all labels i → Saw r bs after (Faulty n)
-      → Found input labels (record { all = all; refusal = record { number = n; «record» = i } })
-  under-stop after n u s =
+  pub stop-refused : (after : Run) (n : ℕ) → Under input old r all labels i → Saw r bs after (Faulty n)
+      → (firstRefusal start 0 (recordsOf input) ≡ record { number = n; place = i }) × (n ≢ 0)
+  stop-refused after n u s =
       let t : Stopped r bs n = stopped r bs after n s in
       let f = u .refused ∙ ap (firstRefusal r i) next ∙ refusal-at r i bs (restFrom input (suc i)) (t .number) (t .fault-is) in
-      let some : n ≢ 0 = λ z. absurd (omega (arith, t .number-is, z)) in
-      record {
-        refusal = ap (λ m. record { number = m; place = i }) (t .number-is) ∙ sym f;
-        events-are = λ z. absurd (some z);
-        labelled-are = λ z. absurd (some z);
-      }
+      (f ∙ ap (λ m. record { number = m; place = i }) (sym (t .number-is)), λ z. absurd (omega (arith, t .number-is, z)))
 
 -- all are seen
-pub under-end : (input : List ℕ) (r : Run) (all : List Event) (labels : List ℕ) (i : ℕ) → i ≡ length input / 8 → Under input r all labels i
-    → Found input labels (record { all = all; refusal = record { number = 0; «record» = 0 } })
-unfolding firstRefusal labelledFrom
-under-end input r all labels i h u =
-    let none : restFrom input i ≡ [] = rest-none input i (omega (arith, h)) in
-    record {
-      refusal = sym (u .refused ∙ ap (firstRefusal r i) none);
-      events-are = λ z. ap (λ k. take k all) (sym h) ∙ sym (u .events-are ∙ ap (λ l. take i all ++ map event l) none ∙ append-nil (take i all));
-      labelled-are = λ z. ap (λ k. held k all labels) (sym h)
-          ∙ sym (u .labelled-are ∙ ap (λ l. held i all labels ++ labelledFrom (r .tally) (map event l)) none ∙ append-nil (held i all labels));
-    }
+pub end-refused : (input old : List ℕ) (r : Run) (all : List Event) (labels : List ℕ) (i : ℕ) → i ≡ length input / 8 → Under input old r all labels i
+    → firstRefusal start 0 (recordsOf input) ≡ noFault
+unfolding firstRefusal
+end-refused input old r all labels i h u = u .refused ∙ ap (firstRefusal r i) (rest-none input i (omega (arith, h)))

@@ -1,34 +1,55 @@
--- What the checker's private functions promise one another about what they find in a recording.
--- A reader of the public promise need not read this.
-use Prim.Native.Nat.{ℕ, zero, suc, _/_}
-use mathlib.Core.Path.{_≡_}
-use mathlib.Core.List.{List}
-use lib.ListN.{length, take}
-use Rattle.record.specs.Faults.{firstFault}
-use Rattle.record.specs.Record.{event}
-use Rattle.replay.specs.Machine.{stateOf}
-use Rattle.graph.specs.Transactions.{tallyOf, belongs, labelled}
-use Rattle.graph.specs.Engine.{held}
-use Rattle.checker.specs.declared.examining.Seen.{Seen}
-use Rattle.checker.specs.declared.examining.Seen.the-variants.{Sound, Faulty}
-use Rattle.checker.specs.declared.examining.Examined.{Examined}
-use Rattle.checker.specs.Refusals.{Run, start, onwards, recordChecks, Fault, recordsOf, firstRefusal, events}
+-- What is found in a recording before it is judged: the refusals that need no output and no work area, and up to the first of them the events and
+-- their transactions. Later requests that read a recording build on it.
+use Prim.Native.Nat.{ℕ, zero, suc, _/_, _%_}
+use mathlib.Core.List.{List, [], _∷_, map}
+use lib.ListN.{length, take, replicate}
+use lib.Dec.{leb, eqb}
+use Rattle.record.specs.declared.Event.{Event}
+use Rattle.record.specs.declared.Op.the-variants.{Yield}
+use Rattle.record.specs.Faults.{Check, check, firstFault}
+use Rattle.record.specs.Record.{recordSize}
+use Rattle.trace.specs.Lists.{over}
+use Rattle.graph.specs.Transactions.{labelled}
+use Rattle.checker.specs.declared.Refusal.{Refusal}
+use Rattle.checker.specs.Refusals.{Fault, start, recordsOf, firstRefusal, events}
 
--- what the records so far have led to, as arrays hold it
-abbrev pub runOf : List ℕ → List ℕ → List ℕ → List ℕ → List ℕ → ℕ → Run
-runOf values holders lives waits current count = record { state = stateOf values holders lives waits; tally = tallyOf current count }
+-- 1 and 2, tried in that order
+unfoldable pub inputChecks : List ℕ → List Check
+inputChecks input = check 1 0 (eqb (length input % recordSize) 0) ∷ check 2 0 (leb (length input) 8192) ∷ []
 
--- a record seen: its event and transaction, or its lowest number
-unfoldable pub seen : Run → List ℕ → Seen
-seen r bs = elim (firstFault (recordChecks r bs)) [ zero ↦ Sound (event bs) (belongs (r .tally) (event bs)) | suc n ↦ Faulty (suc n) ]
+-- 1 and 2, then the first record with a fault
+unfoldable pub inputRefusal : List ℕ → Fault
+inputRefusal input = elim (firstFault (inputChecks input)) [ zero ↦ firstRefusal start 0 (recordsOf input) | suc n ↦ record { number = suc n; place = 0 } ]
 
--- What looking at a record answers and leaves: where it has no fault, it is taken in
-pub record Saw (before : Run) (bs : List ℕ) (after : Run) (r : Seen) : Type 0 where
-  pub answer : r ≡ seen before bs
-  pub onward : firstFault (recordChecks before bs) ≡ 0 → after ≡ onwards before (event bs)
+-- how many records stand before the fault: all where there is none, and none with 1 or 2
+unfoldable pub sound : List ℕ → ℕ
+sound input = let no : Fault = inputRefusal input in elim (no .number) [ zero ↦ length input / recordSize | suc n ↦ no .place ]
 
--- What looking at all records answers and leaves: the first refusal, or else the events and their transactions
-pub record Found (input labels : List ℕ) (r : Examined) : Type 0 where
-  pub refusal : _≡_ {A = Fault} (record { number = r .refusal .number; place = r .refusal .«record» }) (firstRefusal start 0 (recordsOf input))
-  pub events-are : r .refusal .number ≡ 0 → take (length input / 8) (r .all) ≡ events input
-  pub labelled-are : r .refusal .number ≡ 0 → held (length input / 8) (r .all) labels ≡ labelled (events input)
+-- their events
+unfoldable pub soundEvents : List ℕ → List Event
+soundEvents input = take (sound input) (events input)
+
+-- what an array of events holds past them
+abbrev pub noEvent : Event
+noEvent = record { thread = 0; op = Yield }
+
+-- The refusal, and the two arrays at the end
+pub record Examination : Type 0 where
+  pub refusal : Fault
+  pub all : List Event
+  pub labels : List ℕ
+
+-- The sound events are written over 1,024 yields of thread 0, and their transactions over the labels that were there
+unfoldable pub examined : List ℕ → List ℕ → Examination
+examined input labels =
+    let es : List Event = soundEvents input in
+    record { refusal = inputRefusal input; all = over es (replicate 1024 noEvent); labels = over (map (λ x. x .transaction) (labelled es)) labels }
+
+-- a refusal's number and record
+abbrev pub asFault : Refusal → Fault
+asFault r = record { number = r .number; place = r .«record» }
+
+-- Everything above, opened at once, for a proof by computation: `unfolding opened`
+unfoldable pub opened : Unit {0}
+unfolding inputChecks inputRefusal sound soundEvents examined
+opened = tt

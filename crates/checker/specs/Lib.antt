@@ -4,6 +4,7 @@ pub mod Judged
 pub mod Demand3
 pub mod Report
 pub mod Examined
+pub mod Seeing
 pub mod Writing
 pub mod Concluded
 pub mod Examples

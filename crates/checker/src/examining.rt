@@ -1,13 +1,15 @@
 // The pass that only reads: whether the recording is refused, and if not, its events and their transactions.
+use crate::Examined;
 use crate::Refusal;
 use graph::Numbered;
 use record::Decoded;
 use record::Event;
 use record::Op;
-ghost use Prim.Native.Nat.{_≤_};
 ghost use mathlib.Core.Path.{_≡_};
-ghost use lib.ListN.{length};
-ghost use Rattle.checker.specs.Examined.{runOf, Saw, Found};
+ghost use lib.ListN.{length, replicate};
+ghost use Rattle.record.specs.Faults.{firstFault};
+ghost use Rattle.checker.specs.Seeing.{runOf, Saw};
+ghost use Rattle.checker.specs.Examined.{inputChecks, noEvent, Examination, examined, asFault};
 
 // A record, seen after those before it: its event and its transaction, or its lowest number.
 pub enum Seen {
@@ -47,16 +49,22 @@ pub fn see<'a>(
     }
 }
 
-// What all records were found to be. A refusal of number 0 is none.
-pub struct Examined {
-    pub all: [Event; 1024],
-    pub refusal: Refusal,
+// What stands for the events past those that were found.
+pub fn no_events() -> [Event; 1024]
+    ensures { λ r. ⌜ r ≡ replicate 1024 noEvent ⌝ }
+{
+    let none = Event {
+        thread: 0,
+        op: Op::Yield,
+    };
+    [none; 1024]
 }
 
 // Looks at all records, up to the first with a fault. `labels` then has the transaction of each.
-pub fn examine(input: &[u8], labels: &mut [u16]) -> Examined
-    requires { ⌜ (length (now input) ≤ 8192) × (length (now labels) ≡ 1024) ⌝ }
-    ensures { λ r. ⌜ Found (now (input .entry)) (now (labels .exit)) r ⌝ }
+pub fn look_through(input: &[u8], labels: &mut [u16]) -> Examined
+    requires { ⌜ (firstFault (inputChecks (now input)) ≡ 0) × (length (now labels) ≡ 1024) ⌝ }
+    ensures { λ r. ⌜ _≡_ {A = Examination} (record { refusal = asFault (r .refusal); all = r .all; labels = now (labels .exit) })
+        (examined (now (input .entry)) (now (labels .entry))) ⌝ }
 {
     let state = replay::fresh();
     let mut values = state.values;
@@ -65,11 +73,7 @@ pub fn examine(input: &[u8], labels: &mut [u16]) -> Examined
     let mut waits = state.waits;
     let mut current = [0u16; 16];
     let mut count = 0u16;
-    let none = Event {
-        thread: 0,
-        op: Op::Yield,
-    };
-    let mut all = [none; 1024];
+    let mut all = no_events();
     let records = input.len() / 8;
     let mut i = 0;
     while i < records {

@@ -3,12 +3,14 @@ mod concluding;
 mod examining;
 mod writing;
 
+use record::Event;
 ghost use mathlib.Core.Path.{_≡_};
 ghost use Rattle.record.specs.Faults.{firstFault};
 ghost use Rattle.checker.specs.Refusals.{sizeChecks};
 ghost use Rattle.checker.specs.Verdict.{numbers};
 ghost use Rattle.checker.specs.Judged.{Judged, judged};
 ghost use Rattle.checker.specs.Report.{reported};
+ghost use Rattle.checker.specs.Examined.{inputChecks, Examination, examined, asFault};
 
 // Why a recording is refused: the number, and the record that it is given at.
 pub struct Refusal {
@@ -23,15 +25,46 @@ pub enum Answer {
     Refused(Refusal),
 }
 
-// Numbers 1 to 4, tried in that order; 0 where none is given.
-fn size_fault(input: &[u8], out: &[u8], work: &[u64]) -> u8
-    ensures { λ r. ⌜ r ≡ firstFault (sizeChecks (now (input .entry)) (now (out .entry)) (now (work .entry))) ⌝ }
+// What is found in a recording: its events, up to the first fault. A refusal of number 0 is none.
+pub struct Examined {
+    pub all: [Event; 1024],
+    pub refusal: Refusal,
+}
+
+// Numbers 1 and 2, tried in that order; 0 where none is given.
+fn input_fault(input: &[u8]) -> u8
+    ensures { λ r. ⌜ r ≡ firstFault (inputChecks (now (input .entry))) ⌝ }
 {
     if input.len() % 8 != 0 {
         return 1;
     }
     if 8192 < input.len() {
         return 2;
+    }
+    0
+}
+
+// Looks at a recording, up to the first fault: its events, and to the front of `labels` the transaction of each.
+pub fn examine(input: &[u8], labels: &mut [u16; 1024]) -> Examined
+    ensures { λ r. ⌜ _≡_ {A = Examination} (record { refusal = asFault (r .refusal); all = r .all; labels = now (labels .exit) })
+        (examined (now (input .entry)) (now (labels .entry))) ⌝ }
+{
+    let number = input_fault(input);
+    if number != 0 {
+        let all = examining::no_events();
+        let refusal = Refusal { number, record: 0 };
+        return Examined { all, refusal };
+    }
+    examining::look_through(input, labels)
+}
+
+// Numbers 1 to 4, tried in that order; 0 where none is given.
+fn size_fault(input: &[u8], out: &[u8], work: &[u64]) -> u8
+    ensures { λ r. ⌜ r ≡ firstFault (sizeChecks (now (input .entry)) (now (out .entry)) (now (work .entry))) ⌝ }
+{
+    let number = input_fault(input);
+    if number != 0 {
+        return number;
     }
     if out.len() < input.len() {
         return 3;
@@ -53,7 +86,7 @@ pub fn report(input: &[u8], out: &mut [u8], work: &mut [u64], lines: &mut [u16; 
         return Answer::Refused(Refusal { number, record: 0 });
     }
     let mut labels = [0u16; 1024];
-    let examined = examining::examine(input, &mut labels);
+    let examined = examine(input, &mut labels);
     let refusal = examined.refusal;
     if refusal.number != 0 {
         return Answer::Refused(refusal);

@@ -13,17 +13,20 @@ use Rattle.trace.specs.Lists.{each, over, below}
 use Rattle.trace.proofs.Lists.{Earliest, earliest}
 use Rattle.graph.specs.Transactions.{Labelled, labelled, transactions}
 use Rattle.graph.specs.Violation.{cyclicUpTo, shortest, cycleOf}
+use Rattle.graph.specs.Engine.{held}
 use Rattle.graph.proofs.Sizes.{cycle-most}
 use Rattle.checker.specs.declared.Answer.{Answer}
 use Rattle.checker.specs.declared.Answer.the-variants as Checker
 use Rattle.checker.specs.declared.Refusal.{Refusal}
 use Rattle.checker.specs.Verdict.{cooperable, violation}
 use Rattle.checker.specs.Verdict as Verdict
-use Rattle.checker.specs.Refusals.{start, recordsOf, firstRefusal, refusal, events}
+use Rattle.checker.specs.Refusals.{Fault, start, recordsOf, firstRefusal, refusal, events}
 use Rattle.checker.specs.Judged.{Judged, judged}
+use Rattle.checker.specs.Examined.{inputRefusal, Examination, examined}
 use Rattle.checker.specs.Demand3.{numbersIn}
 use Rattle.checker.proofs.Refusing.{sized, sizes-passed, size-passed}
-use Rattle.checker.proofs.Reporting.{records-size, transactions-few}
+use Rattle.checker.proofs.Reporting.{transactions-few}
+use Rattle.checker.proofs.Finding.{events-size, input-sized, input-passed, found, found-refused, found-prefix}
 use Rattle.checker.proofs.Written.{length-each}
 use Rattle.checker.proofs.Demand3.{is-cooperable, is-violation, numbers-are, refused-keeps}
 use Rattle.reasons.specs.declared.Cause.{Cause}
@@ -37,7 +40,7 @@ use Rattle.reasons.proofs.Right.{right, told-fine, told-edge}
 -- What a violation at record k with a cycle of n transactions says of a recording, and of the output that is left
 pub record Violates (input out work left : List ℕ) (k n : ℕ) : Type 0 where
   pub not-refused : refusal input out work .number ≡ 0
-  pub fine : firstRefusal start 0 (recordsOf input) .number ≡ 0
+  pub faultless : inputRefusal input .number ≡ 0
   pub some : shortest (events input) ≡ suc k
   pub size : n ≡ length (cycleOf (events input) (suc k))
   pub cycle-is : numbersIn n left ≡ cycleOf (events input) (suc k)
@@ -45,11 +48,6 @@ pub record Violates (input out work left : List ℕ) (k n : ℕ) : Type 0 where
   pub most : k < 1024
   pub room : 2 * n ≤ length left
   pub few : n ≤ 512
-
--- how many records a recording has
-records-of : (input : List ℕ) → length (events input) ≡ length input / 8
-unfolding events
-records-of input = records-size (length input / 8) input
 
 prefix-within : (es : List Event) (k : ℕ) → shortest es ≡ suc k → k < length es
 unfolding shortest
@@ -67,10 +65,10 @@ module _ (input out work : List ℕ) where
       let fine : firstRefusal start 0 (recordsOf input) .number ≡ 0 = ap (λ f. f .number) (sym (size-passed input out work passed)) ∙ none in
       let cycle : List ℕ = cycleOf (events input) (suc k) in
       let is = is-violation input out work none k e in
-      let inside : k < length input / 8 = subst (λ m. k < m) (records-of input) (prefix-within (events input) k e) in
+      let inside : k < length input / 8 = subst (λ m. k < m) (events-size input) (prefix-within (events input) k e) in
       record {
         not-refused = none;
-        fine = fine;
+        faultless = ap (λ f. f .number) (input-passed input (input-sized input out work passed)) ∙ fine;
         some = e;
         size = refl;
         cycle-is = ap (λ m. numbersIn m (judged input out work .out)) (sym (ap (λ j. j .answer .second) is)) ∙ numbers-are input out work none k e;
@@ -156,6 +154,13 @@ module _ (input out work : List ℕ) (r : Answer) (out′ work′ : List ℕ)
 
     pub violated : Violates input out work out′ k n
     violated = subst (λ o. Violates input out work o k n) (sym (ap (λ x. x .out) j)) (violates-by input out work k n (answer-is (Checker.Violation k n) e))
+
+    -- the records examined again, up to the one that ends the prefix
+    pub held-again : (old : List ℕ) (f : Fault) (all : List Event) (labels : List ℕ)
+        → _≡_ {A = Examination} (record { refusal = f; all = all; labels = labels }) (examined input old) → held (k + 1) all labels ≡ labelled (take (k + 1) (events input))
+    held-again old f all labels h =
+        let none : f .number ≡ 0 = ap (λ x. x .number) (sym (found-refused input old f all labels h)) ∙ violated .faultless in
+        found-prefix input all labels (k + 1) (omega (arith, violated .within)) (found input old f all labels h none)
 
     -- the cause that was found, of the records that arrays hold
     pub cause-is : (p : ℕ) (xs : List Labelled) (c : Cause) → xs ≡ labelled (take (k + 1) (events input)) → c ≡ causeOf xs (originOf (numbersIn n out′) p) (goalOf (numbersIn n out′) p)

@@ -2,7 +2,6 @@ pub mod Examples
 pub mod Reasons
 pub mod Pairs
 pub mod Hits
-pub mod Readings
 pub mod Causes
 pub mod Right
 pub mod Asking

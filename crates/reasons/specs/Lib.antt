@@ -1,5 +1,4 @@
 pub mod Why
 pub mod Meaning
 pub mod Lines
-pub mod Reading
 pub mod Telling

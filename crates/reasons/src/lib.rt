@@ -1,5 +1,4 @@
 // Why an edge of the reported cycle is there: the two records that make it, and on what they conflict.
-mod reading;
 mod reasoning;
 mod searching;
 mod telling;
@@ -50,7 +49,8 @@ pub fn why(input: &[u8], out: &mut [u8], work: &mut [u64], place: usize) -> Told
                 return Told::NoSuchEdge;
             }
             let mut labels = [0u16; 1024];
-            let all = reading::read(input, record + 1, &mut labels);
+            let examined = checker::examine(input, &mut labels);
+            let all = examined.all;
             Told::Because(searching::cause_at(all, &labels, record + 1, &*out, length, place))
         }
     }
@@ -66,7 +66,8 @@ pub fn explain(input: &[u8], out: &mut [u8], work: &mut [u64], lines: &mut [u16;
     match answer {
         Answer::Violation { record, length } => {
             let mut labels = [0u16; 1024];
-            let all = reading::read(input, record + 1, &mut labels);
+            let examined = checker::examine(input, &mut labels);
+            let all = examined.all;
             telling::write_lines(all, &labels, record + 1, &*out, length, lines);
         }
         Answer::Cooperable {

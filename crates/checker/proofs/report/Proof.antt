@@ -7,9 +7,8 @@ use lib.ListN.{length, take}
 use Rattle.record.specs.declared.Event.{Event}
 use Rattle.record.specs.Faults.{firstFault}
 use Rattle.checker.specs.Refusals.{sizeChecks, events}
-use Rattle.checker.specs.Examined.{Found}
-use Rattle.checker.proofs.Refusing.{sized, size-refused}
-use Rattle.checker.proofs.Reporting.{judged-refused, reported-refused, found-refusal, order-long, ready, judged-whole}
+use Rattle.checker.proofs.Refusing.{size-refused}
+use Rattle.checker.proofs.Reporting.{judged-refused, reported-refused, found-refusal, all-found, order-long, ready, judged-whole}
 use borrow.Author.Needs.{needs}
 use Rattle.checker.proofs.report.Statement.{statement}
 use Rattle.checker.proofs.report.Tie as tie
@@ -36,13 +35,8 @@ returns c =
       reported-refused (a .input .now) (a .out .now) (a .work .now) (a .lines .now) n 0 r (c .if1 .taken),
     )
 
-slice-aggregate-examine : tie.Need-slice-aggregate-examine
-slice-aggregate-examine c = search needs
-
 examine-requires : tie.Need-examine-requires
-examine-requires c κs =
-    let a = c .before .before .before .before .before .before .before .before .args in
-    (sized (a .input .now) (a .out .now) (a .work .now) (passed (c .before)) .most, refl)
+examine-requires c κs = search needs
 
 same-length-3 : tie.Need-same-length-3
 same-length-3 c = search needs
@@ -52,9 +46,9 @@ same-length-4 c = search needs
 
 returns-2 : tie.Need-returns-2
 returns-2 c =
-    let a = c .before .before .before .before .before .before .before .before .before .before .before .before .before .args in
-    let e = c .before .before .before .before .examine in
-    let r = found-refusal (a .input .now) (a .out .now) (a .work .now) (passed (c .before .before .before .before .before .before)) _ (e .result) (e .ensures) in (
+    let a = c .before .before .before .before .before .before .before .before .before .before .before .before .args in
+    let e = c .before .before .before .examine in
+    let r = found-refusal (a .input .now) (a .out .now) (a .work .now) (passed (c .before .before .before .before .before)) _ _ (e .result) (e .ensures) in (
       judged-refused (a .input .now) (a .out .now) (a .work .now) (e .result .refusal) r (c .if2 .taken),
       reported-refused (a .input .now) (a .out .now) (a .work .now) (a .lines .now) _ _ r (c .if2 .taken),
     )
@@ -64,19 +58,21 @@ arrange-requires c κs = search needs
 
 slice-aggregate-conclude : tie.Need-slice-aggregate-conclude
 slice-aggregate-conclude c =
-    let a = c .before .before .before .before .before .before .before .before .before .before .before .before .before .before .before .before .before .before .before .before .before .args in
-    let e = c .before .before .before .before .before .before .before .before .before .before .before .before .examine in
+    let a = c .before .before .before .before .before .before .before .before .before .before .before .before .before .before .before .before .before .before .before .before .args in
+    let e = c .before .before .before .before .before .before .before .before .before .before .before .examine in
     let none = c .before .before .before .before .before .before .before .before .if2 .left in
+    let found = all-found (a .input .now) (a .out .now) (a .work .now) (passed (c .before .before .before .before .before .before .before .before .before .before .before .before .before)) _ _ (e .result) (e .ensures) none in
     let es : List Event = take (length (a .input .now) / 8) (e .result .all) in
-    sym (order-long (a .input .now) (a .out .now) (a .work .now) (passed (c .before .before .before .before .before .before .before .before .before .before .before .before .before .before)) _ (e .result) (e .ensures) none es (e .ensures .events-are none) _ _ _ _ refl (c .before .before .before .before .arrange .ensures))
+    sym (order-long (a .input .now) (a .out .now) (a .work .now) (passed (c .before .before .before .before .before .before .before .before .before .before .before .before .before)) _ _ (e .result) (e .ensures) none es (found .events-are) _ _ _ _ refl (c .before .before .before .before .arrange .ensures))
 
 conclude-requires : tie.Need-conclude-requires
 conclude-requires c κs =
-    let a = c .before .before .before .before .before .before .before .before .before .before .before .before .before .before .before .before .before .before .before .before .before .before .before .args in
-    let e = c .before .before .before .before .before .before .before .before .before .before .before .before .before .before .examine in
+    let a = c .before .before .before .before .before .before .before .before .before .before .before .before .before .before .before .before .before .before .before .before .before .before .args in
+    let e = c .before .before .before .before .before .before .before .before .before .before .before .before .before .examine in
     let none = c .before .before .before .before .before .before .before .before .before .before .if2 .left in
+    let found = all-found (a .input .now) (a .out .now) (a .work .now) (passed (c .before .before .before .before .before .before .before .before .before .before .before .before .before .before .before)) _ _ (e .result) (e .ensures) none in
     let es : List Event = take (length (a .input .now) / 8) (e .result .all) in
-    ready (a .input .now) (a .out .now) (a .work .now) (passed (c .before .before .before .before .before .before .before .before .before .before .before .before .before .before .before .before)) _ (e .result) (e .ensures) none es (e .ensures .events-are none) _ _ _ _ refl (c .before .before .before .before .before .before .arrange .ensures)
+    ready (a .input .now) (a .out .now) (a .work .now) (passed (c .before .before .before .before .before .before .before .before .before .before .before .before .before .before .before)) _ _ (e .result) (e .ensures) none es (found .events-are) _ _ _ _ refl (c .before .before .before .before .before .before .arrange .ensures)
     (a .lines .now) (omega (arith, c .conclude-arg2 .given .0 .1)) refl
 
 same-length-5 : tie.Need-same-length-5
@@ -87,11 +83,12 @@ same-length-6 c = search needs
 
 returns-3 : tie.Need-returns-3
 returns-3 c =
-    let a = c .before .before .before .before .before .before .before .before .before .before .before .before .before .before .before .before .before .before .before .before .before .before .before .before .before .before .args in
-    let e = c .before .before .before .before .before .before .before .before .before .before .before .before .before .before .before .before .before .examine in
+    let a = c .before .before .before .before .before .before .before .before .before .before .before .before .before .before .before .before .before .before .before .before .before .before .before .before .before .args in
+    let e = c .before .before .before .before .before .before .before .before .before .before .before .before .before .before .before .before .examine in
     let none = c .before .before .before .before .before .before .before .before .before .before .before .before .before .if2 .left in
+    let found = all-found (a .input .now) (a .out .now) (a .work .now) (passed (c .before .before .before .before .before .before .before .before .before .before .before .before .before .before .before .before .before .before)) _ _ (e .result) (e .ensures) none in
     let es : List Event = take (length (a .input .now) / 8) (e .result .all) in
-    judged-whole (a .input .now) (a .out .now) (a .work .now) (passed (c .before .before .before .before .before .before .before .before .before .before .before .before .before .before .before .before .before .before .before)) _ (e .result) (e .ensures) none es (e .ensures .events-are none) _ _ _ _ refl (c .before .before .before .before .before .before .before .before .before .arrange .ensures)
+    judged-whole (a .input .now) (a .out .now) (a .work .now) (passed (c .before .before .before .before .before .before .before .before .before .before .before .before .before .before .before .before .before .before)) _ _ (e .result) (e .ensures) none es (found .events-are) _ _ _ _ refl (c .before .before .before .before .before .before .before .before .before .arrange .ensures)
     (a .lines .now) _ _ _ (c .before .before .conclude .ensures)
 
 pub report-spec : {M : Type 1} → statement M
@@ -102,7 +99,6 @@ report-spec =
     same-length
     same-length-2
     returns
-    slice-aggregate-examine
     examine-requires
     same-length-3
     same-length-4

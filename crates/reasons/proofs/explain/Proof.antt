@@ -1,10 +1,10 @@
--- `reasons::explain` meets its contract: the checker's answer, then the records read again and a line for each edge.
+-- `reasons::explain` meets its contract: the checker's answer, then the records examined again and a line for each edge.
 use Prim.Native.Nat.{ℕ, _+_, _*_, _/_, _<_, _≤_}
 use native.Mathlib.Omega.{arith}
 use mathlib.Core.Path.{_≡_, refl}
 use borrow.Author.Needs.{needs}
 use Rattle.checker.specs.declared.Answer.the-variants.{Cooperable, Violation, Refused}
-use Rattle.reasons.proofs.Asking.{Violates, judged-as, violated, lines-violation, lines-none}
+use Rattle.reasons.proofs.Asking.{Violates, held-again, judged-as, violated, lines-violation, lines-none}
 use Rattle.reasons.proofs.explain.Statement.{statement}
 use Rattle.reasons.proofs.explain.Tie as tie
 
@@ -23,16 +23,8 @@ judge-requires c κs = search needs
 enum-known-answer : tie.Need-enum-known-answer
 enum-known-answer c = search needs
 
-add-read : tie.Need-add-read
-add-read c = omega (arith, found (c .before) .most)
-
-slice-aggregate-read : tie.Need-slice-aggregate-read
-slice-aggregate-read c = search needs
-
-read-requires : tie.Need-read-requires
-read-requires c κs =
-    let v = found (c .before .before) in
-    (omega (arith, v .within), omega (arith, v .most), refl, v .fine)
+examine-requires : tie.Need-examine-requires
+examine-requires c κs = search needs
 
 add-write-lines : tie.Need-add-write-lines
 add-write-lines c = omega (arith, found (c .before .before .before .before .before) .most)
@@ -60,7 +52,7 @@ returns c =
     let j = c .before .before .before .before .before .before .before .before .before .before .before .before .before .before .judge in
     let r = c .before .before .before .before .before .before .before .before .answer .given .1 in (
       judged-as (a .input .now) (a .out .now) (a .work .now) (j .result) (j .last .1 .0) (j .last .1 .1 .0) (j .ensures) _ r,
-      lines-violation (a .input .now) (a .out .now) (a .work .now) (j .result) (j .last .1 .0) (j .last .1 .1 .0) (j .ensures) _ _ r _ (a .lines .now) _ (c .before .before .before .before .before .read .ensures) (c .write-lines .ensures),
+      lines-violation (a .input .now) (a .out .now) (a .work .now) (j .result) (j .last .1 .0) (j .last .1 .1 .0) (j .ensures) _ _ r _ (a .lines .now) _ (held-again (a .input .now) (a .out .now) (a .work .now) (j .result) (j .last .1 .0) (j .last .1 .1 .0) (j .ensures) _ _ r _ _ _ _ (c .before .before .before .before .before .examine .ensures)) (c .write-lines .ensures),
     )
 
 same-length-3 : tie.Need-same-length-3
@@ -93,9 +85,7 @@ explain-spec =
     (tie.spec
     judge-requires
     enum-known-answer
-    add-read
-    slice-aggregate-read
-    read-requires
+    examine-requires
     add-write-lines
     write-lines-requires
     enum-told

@@ -1,9 +1,9 @@
--- `reasons::why` meets its contract: the checker's answer, then the records read again and searched.
+-- `reasons::why` meets its contract: the checker's answer, then the records examined again and searched.
 use Prim.Native.Nat.{ℕ, _+_, _*_, _/_, _<_, _≤_}
 use native.Mathlib.Omega.{arith}
 use mathlib.Core.Path.{_≡_, refl, sym, _∙_}
 use borrow.Author.Needs.{needs}
-use Rattle.reasons.proofs.Asking.{Violates, says-refused, says-cooperable, says-past, violated, cause-is, says-because}
+use Rattle.reasons.proofs.Asking.{Violates, held-again, says-refused, says-cooperable, says-past, violated, cause-is, says-because}
 use Rattle.reasons.proofs.why.Statement.{statement}
 use Rattle.reasons.proofs.why.Tie as tie
 
@@ -40,16 +40,8 @@ returns c =
     let j = c .before .before .before .before .before .before .before .before .judge in
     says-past (a .input .now) (a .out .now) (a .work .now) (j .result) (j .last .1 .0) (j .last .1 .1 .0) (j .ensures) _ _ (c .before .before .«record» .given .1) (a .place) (c .if1 .taken)
 
-add-read : tie.Need-add-read
-add-read c = omega (arith, found (c .before .before) .most)
-
-slice-aggregate-read : tie.Need-slice-aggregate-read
-slice-aggregate-read c = search needs
-
-read-requires : tie.Need-read-requires
-read-requires c κs =
-    let v = found (c .before .before .before) in
-    (omega (arith, v .within), omega (arith, v .most), refl, v .fine)
+examine-requires : tie.Need-examine-requires
+examine-requires c κs = search needs
 
 add-cause-at : tie.Need-add-cause-at
 add-cause-at c = omega (arith, found (c .before .before .before .before .before .before) .most)
@@ -95,7 +87,7 @@ returns-4 c =
     let j = c .before .before .before .before .before .before .before .before .before .before .before .before .before .before .judge in
     let r = c .before .before .before .before .before .before .before .before .«record» .given .1 in
     says-because (a .input .now) (a .out .now) (a .work .now) (j .result) (j .last .1 .0) (j .last .1 .1 .0) (j .ensures) _ _ r (a .place) (c .before .before .before .before .before .before .if1 .left) (c .cause-at .result)
-    (cause-is (a .input .now) (a .out .now) (a .work .now) (j .result) (j .last .1 .0) (j .last .1 .1 .0) (j .ensures) _ _ r (a .place) _ (c .cause-at .result) (c .before .before .before .before .read .ensures) (c .cause-at .ensures))
+    (cause-is (a .input .now) (a .out .now) (a .work .now) (j .result) (j .last .1 .0) (j .last .1 .1 .0) (j .ensures) _ _ r (a .place) _ (c .cause-at .result) (held-again (a .input .now) (a .out .now) (a .work .now) (j .result) (j .last .1 .0) (j .last .1 .1 .0) (j .ensures) _ _ r _ _ _ _ (c .before .before .before .before .examine .ensures)) (c .cause-at .ensures))
 
 pub why-spec : {M : Type 1} → statement M
 why-spec =
@@ -108,9 +100,7 @@ why-spec =
     same-length
     same-length-2
     returns
-    add-read
-    slice-aggregate-read
-    read-requires
+    examine-requires
     add-cause-at
     cause-at-requires
     same-length-3

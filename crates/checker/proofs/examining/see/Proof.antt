@@ -5,7 +5,7 @@ use mathlib.Core.List.{List}
 use Rattle.record.specs.declared.Event.{Event}
 use Rattle.record.specs.declared.Fault.{Fault}
 use Rattle.checker.specs.Refusals.{Run}
-use Rattle.checker.specs.Examined.{runOf}
+use Rattle.checker.specs.Seeing.{runOf}
 use Rattle.checker.proofs.Looked.{saw-form, saw-event, saw-full, saw-sound}
 use borrow.Author.Needs.{needs}
 use Rattle.checker.proofs.examining.see.Statement.{statement}
