@@ -58,7 +58,7 @@ written-events es r = ap (map event) (written-records es) ∙ again es r
 -- ---- none is refused
 
 -- where there are at most 512 transactions in the end, none would be the 513th
-few-open : (s : Tally) (e : Event) (es : List Event) → tallyFrom s (e ∷ es) .count ≤ 512 → full s e ≡ false
+pub few-open : (s : Tally) (e : Event) (es : List Event) → tallyFrom s (e ∷ es) .count ≤ 512 → full s e ≡ false
 unfolding full tallyFrom
 few-open s e es h = by (begins s e)
     (λ b. ap (λ c. c && leb 512 (s .count)) b ∙ lt-leb 512 (s .count) (omega (arith, count-begun s e b, tally-rises (tallied s e) es)))

@@ -26,9 +26,9 @@ use Rattle.graph.proofs.Ends.{pair-has}
 use Rattle.graph.proofs.Labels.{ev, labelled-events}
 use Rattle.graph.proofs.Numbers.{sane-none, open-of, belongs-first, belongs-open, labels-lt, bounded-edges, current-here, current-other}
 use Rattle.graph.proofs.Steps.{among-none, edges-snoc}
+use Rattle.thin.proofs.Meet.{Fits}
 use Rattle.proposal.specs.Walk.{yieldOf, needsYield}
 use Rattle.proposal.proofs.Appending.{labelled-append, tally-append}
-use Rattle.proposal.proofs.Orders.{Fits}
 use Rattle.proposal.proofs.Idle.{current-ended, yield-last}
 
 pub fails : (b : Bool) → (T b → ⊥) → b ≡ false

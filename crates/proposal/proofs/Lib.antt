@@ -7,3 +7,6 @@ pub mod Bytes
 pub mod Dropped
 pub mod Right
 pub mod Weaving
+pub mod Keeping
+pub mod Underway
+pub mod Proposing

@@ -17,10 +17,12 @@ use Rattle.record.specs.Record.{kind, target, value, targetLimit, inRange}
 use Rattle.record.proofs.Laws.{none-first}
 use Rattle.replay.specs.declared.State.{State}
 use Rattle.replay.specs.Machine.{fresh, forked, joined, unforked, lifeOf, waitOf, waitBefore, finds, checks, faultOf, act, next, possible}
-use Rattle.trace.proofs.Tests.{and-left, and-right}
+use Rattle.trace.proofs.Tests.{and-left, and-right, and-both}
 use Rattle.trace.proofs.Lists.{Among, Before, among-cons}
 use Rattle.graph.specs.Conflict.{forks, joins}
 use Rattle.graph.proofs.Steps.{among-none}
+use Rattle.thin.specs.Orderly.{ranged}
+use Rattle.thin.proofs.Meet.{Fits, Orderly}
 
 -- ---- one event
 
@@ -165,13 +167,6 @@ no-act s (e ∷ es) u p h y m q =
     (λ i. absurd (omega (arith, sym h ∙ ap (λ k. lifeOf s k) (q ∙ ap (λ w. w .thread) i) ∙ b .life)))
     (λ i. no-act (next s e) es u (a .1) (joined-next s (e .thread) (e .op) u (b .own) h) y i q)
 
--- of two events, the first before the second
-pub record Fits (x y : Event) : Type 0 where
-  pub joined : T (joins (x .op)) → target (x .op) ≢ y .thread
-  pub acted : T (forks (y .op)) → x .thread ≢ target (y .op)
-  pub forked : T (forks (y .op)) → T (forks (x .op)) → target (x .op) ≢ target (y .op)
-  pub ended : T (forks (y .op)) → T (joins (x .op)) → target (x .op) ≢ target (y .op)
-
 abbrev pub AllInRange : List Event → Type 0
 AllInRange es = (e : Event) → Among e es → T (inRange e)
 
@@ -203,7 +198,16 @@ orderly s (e ∷ es) z p r x y o =
     split (Before.now m) f g = g m
     split (Before.under o) f g = f o
 
--- A possible history whose fields are in range
-pub history-orderly : (es : List Event) → T (possible fresh es) → AllInRange es → (x y : Event) → Before x y es → Fits x y
+-- thread and target of an event in range are in theirs
+both-ranged : (e : Event) → T (inRange e) → T (ranged e)
+unfolding inRange ranged
+both-ranged e r =
+    let a : Bool = leb (e .thread) 15 in
+    let b : Bool = leb (target (e .op)) (targetLimit (kind (e .op))) in
+    let c : Bool = leb (value (e .op)) 65535 in
+    and-both a b (and-left a (b && c) r) (target-within e r)
+
+-- A possible history whose fields are in range is orderly
+pub history-orderly : (es : List Event) → T (possible fresh es) → AllInRange es → Orderly es
 unfolding fresh
-history-orderly es p r = orderly fresh es (ap suc (length-replicate {A = ℕ} 15 0)) p r
+history-orderly es p r = record { ranges = λ e m. both-ranged e (r e m); pairs = orderly fresh es (ap suc (length-replicate {A = ℕ} 15 0)) p r }

@@ -24,6 +24,7 @@ use Rattle.graph.specs.Transactions.{none-yet, labelledFrom, labelled, tallyFro
 use Rattle.graph.specs.Edges.{edges}
 use Rattle.graph.specs.Violation.{edgesUpTo, cyclicUpTo, shortest}
 use Rattle.graph.proofs.Meaning.{cycle-stays}
+use Rattle.checker.specs.Examined.{inputChecks}
 use Rattle.checker.specs.Refusals as Checker
 use Rattle.checker.specs.Refusals.{records, recordsOf, start, firstRefusal, events}
 use Rattle.checker.proofs.Refusing.{Sized, sized, size-passed}
@@ -80,7 +81,7 @@ module _ (es : List Event) (can : T (possible fresh es)) (fit : (e : Event) → 
   unfolding finished
   end-fine = fine-end [] es start-fine
 
-  limits : (length recording ≤ 1024) × (transactions recording ≤ 512)
+  pub limits : (length recording ≤ 1024) × (transactions recording ≤ 512)
   unfolding finished transactions tallyFrom none-yet
   limits = room-end [] 0 es room (omega arith) (omega arith)
 
@@ -146,7 +147,7 @@ pub record Sizes (input out work : List ℕ) : Type 0 where
   pub work-room : 4096 ≤ length work
 
 pub sizes : (input out work : List ℕ) → firstFault (sizeChecks input out work) ≡ 0 → Sizes input out work
-unfolding sizeChecks
+unfolding sizeChecks inputChecks
 sizes input out work h =
     let a = none-first 1 0 (eqb (length input % 8) 0) _ (omega arith) h in
     let b = none-first 2 0 (leb (length input) 8192) _ (omega arith) (a .1) in
@@ -160,7 +161,7 @@ sizes input out work h =
     }
 
 -- where 1 to 4 are passed, the checker's are
-sizes-checker : (input out work : List ℕ) → firstFault (sizeChecks input out work) ≡ 0 → firstFault (Checker.sizeChecks input out work) ≡ 0
+pub sizes-checker : (input out work : List ℕ) → firstFault (sizeChecks input out work) ≡ 0 → firstFault (Checker.sizeChecks input out work) ≡ 0
 sizes-checker input out work h =
     let s : Sizes input out work = sizes input out work h in
     sizes-fine input out work (s .whole) (s .most) (omega (arith, s .most, s .out-room)) (s .work-room)

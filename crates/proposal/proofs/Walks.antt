@@ -21,11 +21,12 @@ use Rattle.trace.proofs.Tests.{by, and-both}
 use Rattle.trace.proofs.Lists.{Among, Before, map-append, keep-true, keep-false}
 use Rattle.graph.specs.Transactions.{none-yet, begins, tallyFrom, labelledFrom, labelled, transactions, transactionLimit}
 use Rattle.graph.specs.Edges.{edges}
-use Rattle.graph.proofs.Steps.{among-first}
+use Rattle.graph.proofs.Steps.{among-first, before-first}
+use Rattle.thin.proofs.Meet.{Fits, Orderly}
 use Rattle.proposal.specs.Walk.{Placed, given, yieldOf, yieldFor, eventsIn, needsYield, placed, grown, walked, recordLimit, roomChecks, stop}
 use Rattle.proposal.specs.Meaning.{withoutYields}
 use Rattle.proposal.proofs.Appending.{possible-parts, possible-both}
-use Rattle.proposal.proofs.Orders.{Fits, AllInRange, first-fine, history-orderly}
+use Rattle.proposal.proofs.Orders.{AllInRange, first-fine, history-orderly}
 use Rattle.proposal.proofs.Idle.{idle-fresh, idle-after, yield-possible}
 use Rattle.proposal.proofs.Cycles.{tally, needs-open, before-mid, among-parts, after-none}
 
@@ -96,11 +97,20 @@ module _ (built : List Event) (e : Event) (es : List Event) (f : Fine built (e �
   parts : T (possible fresh built) × T (possible (after fresh built) (e ∷ es))
   parts = possible-parts fresh built (e ∷ es) (f .can)
 
-  inside : (x y : Event) → Before x y built → Fits x y
-  inside = history-orderly built (parts .0) (λ x m. f .fit x (among-first built (e ∷ es) m))
+  pub inside : (x y : Event) → Before x y built → Fits x y
+  inside = history-orderly built (parts .0) (λ x m. f .fit x (among-first built (e ∷ es) m)) .pairs
 
-  ahead : (x : Event) → Among x built → Fits x e
-  ahead x m = history-orderly (built ++ (e ∷ es)) (f .can) (f .fit) x e (before-mid built e es m)
+  pub ahead : (x : Event) → Among x built → Fits x e
+  ahead x m = history-orderly (built ++ (e ∷ es)) (f .can) (f .fit) .pairs x e (before-mid built e es m)
+
+  -- the recording with the record is orderly
+  pub orderly-next : Orderly (built ++ (e ∷ []))
+  orderly-next =
+      let whole : Orderly ((built ++ (e ∷ [])) ++ es) = subst Orderly (sym (append-snoc built e es)) (history-orderly (built ++ (e ∷ es)) (f .can) (f .fit)) in
+      record {
+        ranges = λ x m. whole .ranges x (among-first (built ++ (e ∷ [])) es m);
+        pairs = λ x y o. whole .pairs x y (before-first (built ++ (e ∷ [])) es o);
+      }
 
   fine-alone : needsYield built e ≡ false → Fine (built ++ (e ∷ [])) es
   unfolding needsYield
@@ -129,6 +139,15 @@ module _ (built : List Event) (e : Event) (es : List Event) (f : Fine built (e �
     in-range : AllInRange (built ++ (yielding ∷ e ∷ es))
     in-range x m = among-without built yielding (e ∷ es) m (f .fit x)
         (λ q. subst (λ w. T (inRange w)) (sym q) (yield-ranged e (f .fit e (among-last built (e ∷ es) Among.top))))
+
+    -- the recording with yield and record is orderly
+    pub orderly-yield : Orderly ((built ++ (yielding ∷ [])) ++ (e ∷ []))
+    orderly-yield =
+        let whole : Orderly ((built ++ (yielding ∷ e ∷ [])) ++ es) = subst Orderly (sym together) (history-orderly (built ++ (yielding ∷ e ∷ es)) yielded in-range) in
+        subst Orderly (sym (append-snoc built yielding (e ∷ []))) (record {
+          ranges = λ x m. whole .ranges x (among-first (built ++ (yielding ∷ e ∷ [])) es m);
+          pairs = λ x y o. whole .pairs x y (before-first (built ++ (yielding ∷ e ∷ [])) es o);
+        })
 
     fine-yield : Fine (built ++ (yielding ∷ e ∷ [])) es
     fine-yield = record {

@@ -1,16 +1,17 @@
 -- The whole promise of proposed yields (document 02, L6): the answer, and what is left in the output and in the work area, of every input, output and work
 -- area.
-use Prim.Native.Nat.{ℕ, zero, suc, _%_}
+use Prim.Native.Nat.{ℕ, zero, suc}
 use mathlib.Core.Bool.{true, false}
-use mathlib.Core.List.{List, [], _∷_}
+use mathlib.Core.List.{List, [], _∷_, _++_}
 use lib.ListN.{length, replicate}
-use lib.Dec.{leb, eqb}
+use lib.Dec.{leb}
 use Rattle.record.specs.declared.Event.{Event}
 use Rattle.record.specs.Faults.{Check, check, firstFault}
-use Rattle.record.specs.Record.{recordSize, encoded}
+use Rattle.record.specs.Record.{encoded}
 use Rattle.trace.specs.Lists.{keep, each, over}
 use Rattle.graph.specs.Arranged.{workSize}
 use Rattle.checker.specs.Verdict.{Numbers}
+use Rattle.checker.specs.Examined.{inputChecks}
 use Rattle.checker.specs.Refusals.{Fault, start, firstRefusal, recordsOf, events}
 use Rattle.proposal.specs.declared.Proposed.{Proposed}
 use Rattle.proposal.specs.declared.Proposed.the-variants.{Finished, Refused}
@@ -23,12 +24,7 @@ numbers (Refused r) = record { kind = 2; first = r .number; second = r .record }
 
 -- 1 to 4, tried in that order: as the checker's, but for 3
 unfoldable pub sizeChecks : List ℕ → List ℕ → List ℕ → List Check
-sizeChecks input out work =
-    check 1 0 (eqb (length input % recordSize) 0)
-    ∷ check 2 0 (leb (length input) 8192)
-    ∷ check 3 0 (leb 8192 (length out))
-    ∷ check 4 0 (leb workSize (length work))
-    ∷ []
+sizeChecks input out work = inputChecks input ++ (check 3 0 (leb 8192 (length out)) ∷ check 4 0 (leb workSize (length work)) ∷ [])
 
 -- 1 to 4, then 5 to 13 of the whole input
 unfoldable pub refusal : List ℕ → List ℕ → List ℕ → Fault
