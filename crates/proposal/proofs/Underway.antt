@@ -3,17 +3,18 @@ use Prim.Native.Nat.{ℕ, zero, suc, _+_, _≤_, _<_}
 use native.Mathlib.Omega.{arith}
 use mathlib.Core.Path.{_≡_, refl, sym, ap, ap₂, _∙_, subst}
 use mathlib.Core.Logic.{_≢_}
+use mathlib.Core.Bool.{_&&_}
 use mathlib.Core.List.{List, [], _∷_, _++_, append-assoc, append-nil}
 use lib.ListN.{length, getD, set, take, drop, length-append, length-take, drop-of-length-le, length-map}
 use lib.Seq.{drop-cons, getD-take, getD-set-same, getD-set-other, length-take-le}
-use lib.Dec.{T}
+use lib.Dec.{T, leb, leb→le}
 use Rattle.record.specs.declared.Event.{Event}
 use Rattle.record.specs.Faults.{firstFault}
-use Rattle.record.specs.Record.{inRange}
+use Rattle.record.specs.Record.{kind, target, value, targetLimit, inRange}
 use Rattle.replay.specs.Machine.{fresh, possible}
 use Rattle.trace.specs.Lists.{allOf, someOf}
 use Rattle.trace.specs.Paths.{cyclic}
-use Rattle.trace.proofs.Tests.{by-same}
+use Rattle.trace.proofs.Tests.{by-same, and-left}
 use Rattle.trace.proofs.Lists.{Among, map-append, all-has}
 use Rattle.graph.specs.Transactions.{labelledFrom, labelled}
 use Rattle.graph.specs.Edges.{edges}
@@ -23,10 +24,10 @@ use Rattle.checker.specs.Examined.{asFault}
 use Rattle.checker.specs.Refusals.{Fault}
 use Rattle.proposal.specs.Walk.{Placed, eventsIn, placed, grown, walked, finished, roomChecks, stop}
 use Rattle.proposal.specs.Weaving.{placedAs, woven}
-use Rattle.proposal.specs.Keeping.{Kept, Stepping, Walked}
-use Rattle.proposal.proofs.Walks.{Fine, fine-next, stop-on, stop-at}
+use Rattle.proposal.specs.Keeping.{Kept, Stepping, stepping, Walked}
+use Rattle.proposal.proofs.Walks.{Fine, fine-next, stop-on, stop-at, among-last}
 use Rattle.proposal.proofs.Weaving.{placed-unmarked, placed-marked}
-use Rattle.proposal.proofs.Keeping.{Represents, Right}
+use Rattle.proposal.proofs.Keeping.{Represents, Right, stepping-right}
 
 -- marks past the first n don't matter
 woven-set : (n i : ℕ) (all : List Event) (marks : List ℕ) (m : ℕ) → n ≤ i → woven n all (set marks i m) ≡ woven n all marks
@@ -85,6 +86,17 @@ module _ (count : ℕ) (all : List Event) (work₀ : List ℕ) where
 
       pub fine-now : Fine front (e ∷ later)
       fine-now = subst (Fine front) next (u .fine)
+
+      -- the event's thread is one of 16
+      pub thread-small : e .thread < 16
+      unfolding inRange
+      thread-small =
+          let fit : T (inRange e) = fine-now .fit e (among-last front (e ∷ later) Among.top) in
+          omega (arith, leb→le (e .thread) 15 (and-left (leb (e .thread) 15) (leb (target (e .op)) (targetLimit (kind (e .op))) && leb (value (e .op)) 65535) fit))
+
+      -- the step that the code takes is that of the walk
+      pub step-right : (s : Stepping) → s ≡ stepping built k e → Right front k e s
+      step-right s q = subst (Right front k e) (sym q) (stepping-right front e later fine-now k (u .represents) built (u .size))
 
       module _ (s : Stepping) (r : Right front k e s) where
         -- one more
@@ -147,3 +159,7 @@ module _ (count : ℕ) (all : List Event) (work₀ : List ℕ) where
           marked = λ z. ap (λ n. woven n all marks) (sym q) ∙ sym (u .finishes ∙ ap (λ l. woven i all marks ++ walked front l) none ∙ append-nil (woven i all marks));
           rest = u .rest;
         }
+
+-- from the rows that the walk began with to those that were there before
+pub walked-from : (count : ℕ) (all : List Event) (marks work w w′ : List ℕ) (r : Refusal) → drop 4096 w ≡ drop 4096 work → Walked count all marks w w′ r → Walked count all marks work w′ r
+walked-from count all marks work w w′ r q walk = record { stopped = walk .stopped; marked = walk .marked; rest = walk .rest ∙ q }

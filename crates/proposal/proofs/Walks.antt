@@ -63,7 +63,7 @@ pub record Fine (built es : List Event) : Type 0 where
   pub fit : AllInRange (built ++ es)
   pub acyclic : cyclic (edges (labelled built)) ≡ false
 
-among-last : {A : Type 0} {y : A} (us vs : List A) → Among y vs → Among y (us ++ vs)
+pub among-last : {A : Type 0} {y : A} (us vs : List A) → Among y vs → Among y (us ++ vs)
 among-last [] vs m = m
 among-last (x ∷ us) vs m = Among.deeper (among-last us vs m)
 

@@ -187,8 +187,8 @@ fn place<'a>(
 
 // Walks over the first `count` events of a possible history, and marks each that a yield is put before. The answer is where there is no room; a number 0 is
 // none. The work area's first 4,096 numbers are left with the rows.
-pub fn walk(all: [Event; 1024], count: usize, marks: &mut [u8; 1024], work: &mut [u64]) -> Refusal
-    requires { ⌜ (count ≤ 1024) × (4096 ≤ length (now work)) × T (possible fresh (take count all)) × T (allOf inRange (take count all)) ⌝ }
+pub fn walk(all: [Event; 1024], count: usize, marks: &mut [u8], work: &mut [u64]) -> Refusal
+    requires { ⌜ (count ≤ 1024) × (length (now marks) ≡ 1024) × (4096 ≤ length (now work)) × T (possible fresh (take count all)) × T (allOf inRange (take count all)) ⌝ }
     ensures { λ r. ⌜ Walked count all (now (marks .exit)) (now (work .entry)) (now (work .exit)) r ⌝ }
 {
     rows::begin(work);

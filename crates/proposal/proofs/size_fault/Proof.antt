@@ -1,27 +1,35 @@
+-- `proposal::size_fault` meets its contract: at each `return` the tests that led there say which check fails.
+use Prim.Native.Nat.{ℕ, _%_}
+use native.Mathlib.Omega.{arith}
+use mathlib.Core.Path.{_≡_, sym}
+use mathlib.Core.List.{List}
+use lib.ListN.{length}
+use borrow.Author.Tests.{eq-eqb, ne-eqb, le-leb, lt-leb}
+use Rattle.record.specs.Faults.{firstFault}
+use Rattle.checker.specs.Examined.{inputChecks}
+use Rattle.proposal.specs.Proposed.{sizeChecks}
 use Rattle.proposal.proofs.size_fault.Statement.{statement}
 use Rattle.proposal.proofs.size_fault.Tie as tie
-use Rattle.proposal.proofs.size_fault.Reads as reads
-use Rattle.proposal.proofs.size_fault.Lts as lts
 
--- src/lib.rt:21:9
 returns : tie.Need-returns
-returns c = ?
+unfolding sizeChecks inputChecks firstFault
+returns c = let a = c .before .args in sym (simp (ne-eqb (length (a .input .now) % 8) 0 (c .if1 .taken)))
 
--- src/lib.rt:24:9
 returns-2 : tie.Need-returns-2
-returns-2 c = ?
+unfolding sizeChecks inputChecks firstFault
+returns-2 c = let a = c .before .before .args in sym (simp (eq-eqb (length (a .input .now) % 8) 0 (omega arith), lt-leb (length (a .input .now)) 8192 (omega arith)))
 
--- src/lib.rt:27:9
 returns-3 : tie.Need-returns-3
-returns-3 c = ?
+unfolding sizeChecks inputChecks firstFault
+returns-3 c = let a = c .before .before .before .args in sym (simp (eq-eqb (length (a .input .now) % 8) 0 (omega arith), le-leb (length (a .input .now)) 8192 (omega arith), lt-leb 8192 (length (a .out .now)) (omega arith)))
 
--- src/lib.rt:30:9
 returns-4 : tie.Need-returns-4
-returns-4 c = ?
+unfolding sizeChecks inputChecks firstFault
+returns-4 c = let a = c .before .before .before .before .args in sym (simp (eq-eqb (length (a .input .now) % 8) 0 (omega arith), le-leb (length (a .input .now)) 8192 (omega arith), le-leb 8192 (length (a .out .now)) (omega arith), lt-leb 4096 (length (a .work .now)) (omega arith)))
 
--- src/lib.rt:17:1
 returns-5 : tie.Need-returns-5
-returns-5 c = ?
+unfolding sizeChecks inputChecks firstFault
+returns-5 c = let a = c .before .before .before .before .args in sym (simp (eq-eqb (length (a .input .now) % 8) 0 (omega arith), le-leb (length (a .input .now)) 8192 (omega arith), le-leb 8192 (length (a .out .now)) (omega arith), le-leb 4096 (length (a .work .now)) (omega arith)))
 
 pub size-fault-spec : {M : Type 1} → statement M
 size-fault-spec = tie.close (tie.spec returns returns-2 returns-3 returns-4 returns-5)

@@ -1,46 +1,37 @@
+-- `proposal::walking::needs_yield` meets its contract: a join and a thread's first begin a transaction; any other is asked of the cells and rows.
+use native.Mathlib.Omega.{arith}
+use mathlib.Core.Path.{_≡_, sym, _∙_}
+use Rattle.proposal.proofs.Putting.{needing-join, needing-first, needing-open}
 use borrow.Author.Needs.{needs}
 use Rattle.proposal.proofs.walking.needs_yield.Statement.{statement}
 use Rattle.proposal.proofs.walking.needs_yield.Tie as tie
-use Rattle.proposal.proofs.walking.needs_yield.Reads as reads
-use Rattle.proposal.proofs.walking.needs_yield.Lts as lts
-use Rattle.record.proofs.kind_of.Reads as kind-of-reads
-use Rattle.thin.proofs.closes.Reads as closes-reads
 
--- src/walking.rt:32:23
 cast-own : tie.Need-cast-own
 cast-own c = search needs
 
--- src/walking.rt:32:15
 mul-own : tie.Need-mul-own
 mul-own c = search needs
 
--- src/walking.rt:32:15
 element-copy-out-own : tie.Need-element-copy-out-own
 element-copy-out-own c = search needs
 
--- src/walking.rt:33:8
 kind-of-requires : tie.Need-kind-of-requires
 kind-of-requires c κs = search needs
 
--- src/walking.rt:34:9
 returns : tie.Need-returns
-returns c = ?
+returns c = needing-join _ _ _ _ (sym (c .before .kind-of .ensures) ∙ c .if1 .taken)
 
--- src/walking.rt:37:9
 returns-2 : tie.Need-returns-2
-returns-2 c = ?
+returns-2 c = needing-first _ _ _ _ (λ q. c .before .if1 .left (c .before .before .kind-of .ensures ∙ q)) (c .if2 .taken)
 
--- src/walking.rt:39:58
 sub-closes : tie.Need-sub-closes
 sub-closes c = search needs
 
--- src/walking.rt:39:5
 closes-requires : tie.Need-closes-requires
-closes-requires c κs = ?
+closes-requires c κs = search needs
 
--- src/walking.rt:19:1
 returns-3 : tie.Need-returns-3
-returns-3 c = ?
+returns-3 c = c .closes .ensures ∙ needing-open _ _ _ _ (λ q. c .before .before .if1 .left (c .before .before .before .kind-of .ensures ∙ q)) (c .before .if2 .left)
 
 pub needs-yield-spec : {M : Type 1} → statement M
 needs-yield-spec =

@@ -1,59 +1,46 @@
+-- `proposal::walking::place` meets its contract: with a yield or without, each with room or without.
+use mathlib.Core.Path.{_≡_, sym, _∙_}
+use Rattle.proposal.proofs.Putting.{step-short, step-yield, step-short-alone, step-alone}
 use borrow.Author.Needs.{needs}
 use Rattle.proposal.proofs.walking.place.Statement.{statement}
 use Rattle.proposal.proofs.walking.place.Tie as tie
-use Rattle.proposal.proofs.walking.place.Reads as reads
-use Rattle.proposal.proofs.walking.place.Lts as lts
-use Rattle.proposal.proofs.walking.needs_yield.Reads as needs-yield-reads
-use Rattle.proposal.proofs.walking.put.Reads as put-reads
-use Rattle.proposal.proofs.walking.put_last.Reads as put-last-reads
 
--- src/walking.rt:128:8
 needs-yield-requires : tie.Need-needs-yield-requires
 needs-yield-requires c κs = search needs
 
--- src/walking.rt:138:13
 same-length : tie.Need-same-length
 same-length c = search needs
 
--- src/walking.rt:138:13
 returns : tie.Need-returns
-returns c = ?
+returns c = step-short _ _ _ (sym (c .before .before .needs-yield .ensures) ∙ c .before .if1 .taken) (c .if2 .taken)
 
--- src/walking.rt:147:9
 put-requires : tie.Need-put-requires
 put-requires c κs = search needs
 
--- src/walking.rt:157:9
 put-last-requires : tie.Need-put-last-requires
 put-last-requires c κs = search needs
 
--- src/walking.rt:157:9
 same-length-2 : tie.Need-same-length-2
 same-length-2 c = search needs
 
--- src/walking.rt:157:9
 returns-2 : tie.Need-returns-2
-returns-2 c = ?
+returns-2 c =
+    step-yield _ _ _ (sym (c .before .before .before .before .before .before .before .before .before .before .before .before .before .before .before .before .before .before .before .before .before .before .needs-yield .ensures) ∙ c .before .before .before .before .before .before .before .before .before .before .before .before .before .before .before .before .before .before .before .before .before .if1 .taken) _ _ (c .before .before .before .before .before .before .before .before .before .before .before .before .before .before .before .before .before .before .before .before .if2 .left) (c .before .before .before .before .before .before .before .before .before .before .before .before .put .ensures .1) (c .before .before .put-last .ensures)
 
--- src/walking.rt:170:9
 same-length-3 : tie.Need-same-length-3
 same-length-3 c = search needs
 
--- src/walking.rt:170:9
 returns-3 : tie.Need-returns-3
-returns-3 c = ?
+returns-3 c = step-short-alone _ _ _ (sym (c .before .before .needs-yield .ensures) ∙ c .before .if1 .left) (c .if3 .taken)
 
--- src/walking.rt:175:5
 put-last-requires-2 : tie.Need-put-last-requires-2
 put-last-requires-2 c κs = search needs
 
--- src/walking.rt:113:1
 same-length-4 : tie.Need-same-length-4
 same-length-4 c = search needs
 
--- src/walking.rt:113:1
 returns-4 : tie.Need-returns-4
-returns-4 c = ?
+returns-4 c = step-alone _ _ _ (sym (c .before .before .before .before .before .before .before .before .before .before .before .before .needs-yield .ensures) ∙ c .before .before .before .before .before .before .before .before .before .before .before .if1 .left) _ (c .before .before .before .before .before .before .before .before .before .before .if3 .left) (c .before .before .put-last2 .ensures)
 
 pub place-spec : {M : Type 1} → statement M
 place-spec =

@@ -1,38 +1,32 @@
+-- `proposal::walking::put` meets its contract: counted and taken in, or full.
+use mathlib.Core.Path.{_≡_, sym, _∙_}
+use Rattle.proposal.proofs.Putting.{put-taken, put-full}
 use borrow.Author.Needs.{needs}
 use Rattle.proposal.proofs.walking.put.Statement.{statement}
 use Rattle.proposal.proofs.walking.put.Tie as tie
-use Rattle.proposal.proofs.walking.put.Reads as reads
-use Rattle.proposal.proofs.walking.put.Lts as lts
-use Rattle.graph.proofs.number.Reads as number-reads
-use Rattle.thin.proofs.take.Reads as take-reads
 
--- src/walking.rt:57:11
 number-requires : tie.Need-number-requires
 number-requires c κs = search needs
 
--- src/walking.rt:58:22
 enum-known-a : tie.Need-enum-known-a
 enum-known-a c = search needs
 
--- src/walking.rt:60:13
 take-requires : tie.Need-take-requires
-take-requires c κs = ?
+take-requires c κs = search needs
 
--- src/walking.rt:72:27
 enum-told : tie.Need-enum-told
 enum-told c = search needs
 
--- src/walking.rt:43:1
 same-length : tie.Need-same-length
 same-length c = search needs
 
--- src/walking.rt:43:1
 returns : tie.Need-returns
-returns c = ?
+returns c =
+    let n = c .before .before .before .before .before .before .before .before .before .before .before .before .number in
+    put-taken _ _ _ _ _ _ (sym (n .ensures .0) ∙ c .before .before .before .before .before .before .before .before .before .before .a .given .1) (n .ensures .1) (c .before .before .take .ensures)
 
--- src/walking.rt:43:1
 returns-2 : tie.Need-returns-2
-returns-2 c = ?
+returns-2 c = let n = c .before .before .number in put-full _ _ _ (sym (n .ensures .0) ∙ c .enum-told .given .1) (n .ensures .1)
 
 pub put-spec : {M : Type 1} → statement M
 put-spec =
