@@ -81,6 +81,36 @@ struct quelohuite_answer quelohuite_judge(
     uint8_t *output, size_t output_length,
     uint64_t *work, size_t work_length);
 
+/* Values of `kind` of what is told of an edge. */
+#define QUELOHUITE_BECAUSE      0 /* first, second: the two records that make the edge;
+                                     reason, number: on what they conflict, below */
+#define QUELOHUITE_NO_SUCH_EDGE 1 /* no violation, or the place isn't below the cycle's length; all 0 */
+                                  /* 2 is QUELOHUITE_REFUSED, with first and second as above */
+
+/* Values of `reason`, and what `number` is then. */
+#define QUELOHUITE_REASON_THREAD    0 /* the thread of both records */
+#define QUELOHUITE_REASON_VARIABLE  1 /* the variable that both touch and one writes */
+#define QUELOHUITE_REASON_LOCK      2 /* the lock that both touch */
+#define QUELOHUITE_REASON_FORK_JOIN 3 /* the thread that is forked or joined */
+
+struct quelohuite_reason {
+    uint64_t kind;
+    uint64_t first;
+    uint64_t second;
+    uint64_t reason;
+    uint64_t number;
+};
+
+/* Judges one recording as `quelohuite_judge` does, leaves output and work area as it does, and tells
+   why the edge at a place of the reported cycle is there. Places count from 0: the edge at place i
+   goes from the cycle's transaction i to the next one, the last back to the first. The records are
+   the earliest two that make the edge. */
+struct quelohuite_reason quelohuite_why(
+    const uint8_t *input, size_t input_length,
+    uint8_t *output, size_t output_length,
+    uint64_t *work, size_t work_length,
+    size_t place);
+
 #ifdef __cplusplus
 }
 #endif

@@ -1,13 +1,18 @@
-/* Judges each request on standard input, for a machine that is not x86-64.
+/* Answers each request on standard input, for a machine that is not x86-64.
 
-   A request: the lengths of input, output and work area, 8 bytes each, low byte first; then their
-   contents. The reply: the answer's three numbers, then the contents of output and work area. */
+   A request: which function (0 judge, 1 why), the place that is asked for, and the lengths of input,
+   output and work area, 8 bytes each, low byte first; then the contents of the three. The reply: five
+   numbers, 0 where the function answers fewer, then the contents of output and work area. */
 
 typedef unsigned char u8;
 typedef unsigned long u64;
 
 struct quelohuite_answer { u64 kind, first, second; };
 struct quelohuite_answer quelohuite_judge(const u8 *, u64, u8 *, u64, u64 *, u64);
+struct quelohuite_reason { u64 kind, first, second, reason, number; };
+struct quelohuite_reason quelohuite_why(const u8 *, u64, u8 *, u64, u64 *, u64, u64);
+
+struct request { u64 function, place, input, output, work; };
 
 long read(int, void *, u64);
 long write(int, const void *, u64);
@@ -34,18 +39,27 @@ static int write_all(const void *from, u64 length) {
     return 1;
 }
 
-static int serve(u64 input_length, u64 output_length, u64 work_length) {
+static struct quelohuite_reason answer(
+    const struct request *asked, const u8 *input, u8 *output, u64 *work) {
+    if (asked->function == 1)
+        return quelohuite_why(
+            input, asked->input, output, asked->output, work, asked->work, asked->place);
+    struct quelohuite_answer judged =
+        quelohuite_judge(input, asked->input, output, asked->output, work, asked->work);
+    return (struct quelohuite_reason){judged.kind, judged.first, judged.second, 0, 0};
+}
+
+static int serve(const struct request *asked) {
     /* One more than asked for, so that none is empty. */
-    u8 *input = malloc(input_length + 1), *output = malloc(output_length + 1);
-    u64 *work = malloc(8 * work_length + 8);
+    u8 *input = malloc(asked->input + 1), *output = malloc(asked->output + 1);
+    u64 *work = malloc(8 * asked->work + 8);
     int well = input && output && work;
-    well = well && read_all(input, input_length) && read_all(output, output_length);
-    well = well && read_all(work, 8 * work_length);
+    well = well && read_all(input, asked->input) && read_all(output, asked->output);
+    well = well && read_all(work, 8 * asked->work);
     if (well) {
-        struct quelohuite_answer answer =
-            quelohuite_judge(input, input_length, output, output_length, work, work_length);
-        well = write_all(&answer, sizeof answer) && write_all(output, output_length);
-        well = well && write_all(work, 8 * work_length);
+        struct quelohuite_reason numbers = answer(asked, input, output, work);
+        well = write_all(&numbers, sizeof numbers) && write_all(output, asked->output);
+        well = well && write_all(work, 8 * asked->work);
     }
     free(input);
     free(output);
@@ -54,8 +68,8 @@ static int serve(u64 input_length, u64 output_length, u64 work_length) {
 }
 
 int main(void) {
-    u64 lengths[3];
-    while (read_all(lengths, sizeof lengths))
-        if (!serve(lengths[0], lengths[1], lengths[2])) return 1;
+    struct request asked;
+    while (read_all(&asked, sizeof asked))
+        if (!serve(&asked)) return 1;
     return 0;
 }

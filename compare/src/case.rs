@@ -1,9 +1,11 @@
 //! One comparison: a recording, the lengths that are lent with it, and what both sides make of it.
 
+use std::fmt::Debug;
 use std::panic::{catch_unwind, AssertUnwindSafe};
 
 use reference::{Answer, WORK_AREA};
 
+use crate::library;
 use crate::numbers::Numbers;
 
 #[derive(Clone, Debug, PartialEq, Eq)]
@@ -13,21 +15,6 @@ pub struct Case {
     pub work_length: usize,
     /// Fixes what output and work area hold before.
     pub before: u64,
-}
-
-/// What one side leaves.
-#[derive(PartialEq, Eq)]
-pub struct Left {
-    pub answer: Answer,
-    pub out: Vec<u8>,
-    pub work: Vec<u64>,
-}
-
-impl Left {
-    /// The output that was lent for this case.
-    pub fn lent_out(&self, case: &Case) -> &[u8] {
-        &self.out[FENCE..FENCE + case.out_length]
-    }
 }
 
 /// Bytes kept on both sides of the lent output, and numbers on both sides of the lent work area:
@@ -62,68 +49,88 @@ impl Case {
         Case { input, out_length, work_length, before: numbers.any() }
     }
 
-    fn contents_before(&self) -> (Vec<u8>, Vec<u64>) {
+    /// What is lent to each side.
+    pub fn lent(&self) -> Lent<'_> {
         let mut numbers = Numbers::from_seed(self.before);
         let out = (0..self.out_length + 2 * FENCE).map(|_| numbers.byte()).collect();
         let work = (0..self.work_length + 2 * FENCE).map(|_| numbers.any()).collect();
-        (out, work)
-    }
-
-    fn left_by(&self, judge: impl Fn(&[u8], &mut [u8], &mut [u64]) -> Answer) -> Option<Left> {
-        let (mut out, mut work) = self.contents_before();
-        let lent_out = FENCE..FENCE + self.out_length;
-        let lent_work = FENCE..FENCE + self.work_length;
-        let call = || judge(&self.input, &mut out[lent_out], &mut work[lent_work]);
-        let answer = catch_unwind(AssertUnwindSafe(call)).ok()?;
-        Some(Left { answer, out, work })
-    }
-
-    pub fn left_by_the_checker(&self) -> Option<Left> {
-        self.left_by(checker)
-    }
-
-    pub fn left_by_the_reference(&self) -> Option<Left> {
-        self.left_by(reference::judge)
+        Lent { input: &self.input, out, work }
     }
 
     /// The answer of both sides, or what they differ in, in words.
     pub fn compared(&self) -> Result<Answer, String> {
-        let (checker, reference) = (self.left_by_the_checker(), self.left_by_the_reference());
-        let (Some(checker), Some(reference)) = (checker, reference) else {
-            return Err("one side stopped in a panic".to_string());
-        };
-        if checker == reference {
-            return Ok(checker.answer);
+        let lent = self.lent();
+        let reference = lent.left_by(reference::judge);
+        let checker = lent.left_by(library::judge);
+        let answer = reference.as_ref().map(|left| left.answer);
+        match difference(checker, reference) {
+            Some(said) => Err(said),
+            None => Ok(answer.expect("both sides have answered")),
         }
-        Err(self.difference(&checker, &reference))
-    }
-
-    fn difference(&self, checker: &Left, reference: &Left) -> String {
-        if checker.answer != reference.answer {
-            let (ours, theirs) = (checker.answer, reference.answer);
-            return format!("checker:   {ours:?}\nreference: {theirs:?}");
-        }
-        let same = format!("both answer {:?}", checker.answer);
-        if checker.out != reference.out {
-            let ours = checker.lent_out(self);
-            let theirs = reference.lent_out(self);
-            return format!(
-                "{same}\noutput of checker:   {ours:02X?}\noutput of reference: {theirs:02X?}"
-            );
-        }
-        let place = (0..checker.work.len()).find(|at| checker.work[*at] != reference.work[*at]);
-        let place = place.map(|at| at as i64 - FENCE as i64);
-        format!("{same}\nthe work areas differ, first at {place:?}")
     }
 }
 
-/// The proved checker, with its answer said as the reference says it.
-fn checker(input: &[u8], out: &mut [u8], work: &mut [u64]) -> Answer {
-    match quelohuite::judge(input, out, work) {
-        quelohuite::Answer::Cooperable { records, transactions } => {
-            Answer::Cooperable { records, transactions }
-        }
-        quelohuite::Answer::Violation { record, length } => Answer::Violation { record, length },
-        quelohuite::Answer::Refused { number, record } => Answer::Refused { number, record },
+/// The recording, and the contents of output and work area with their fences.
+pub struct Lent<'a> {
+    input: &'a [u8],
+    out: Vec<u8>,
+    work: Vec<u64>,
+}
+
+impl Lent<'_> {
+    /// What one side leaves; nothing if it stops in a panic.
+    pub fn left_by<A>(
+        &self,
+        asked: impl FnOnce(&[u8], &mut [u8], &mut [u64]) -> A,
+    ) -> Option<Left<A>> {
+        let (mut out, mut work) = (self.out.clone(), self.work.clone());
+        let lent_out = FENCE..out.len() - FENCE;
+        let lent_work = FENCE..work.len() - FENCE;
+        let call = || asked(self.input, &mut out[lent_out], &mut work[lent_work]);
+        let answer = catch_unwind(AssertUnwindSafe(call)).ok()?;
+        Some(Left { answer, out, work })
     }
+}
+
+/// What one side leaves.
+pub struct Left<A> {
+    pub answer: A,
+    out: Vec<u8>,
+    work: Vec<u64>,
+}
+
+impl<A> Left<A> {
+    /// The same contents, with this answer.
+    pub fn with<B>(&self, answer: B) -> Left<B> {
+        Left { answer, out: self.out.clone(), work: self.work.clone() }
+    }
+
+    /// The output that was lent.
+    pub fn lent_out(&self) -> &[u8] {
+        &self.out[FENCE..self.out.len() - FENCE]
+    }
+}
+
+/// What the two sides differ in, in words.
+pub fn difference<A: Debug + PartialEq>(
+    library: Option<Left<A>>,
+    reference: Option<Left<A>>,
+) -> Option<String> {
+    let (Some(library), Some(reference)) = (library, reference) else {
+        return Some("one side stopped in a panic".to_string());
+    };
+    if library.answer != reference.answer {
+        let (ours, theirs) = (library.answer, reference.answer);
+        return Some(format!("library:   {ours:?}\nreference: {theirs:?}"));
+    }
+    let same = format!("both answer {:?}", library.answer);
+    if library.out != reference.out {
+        let (ours, theirs) = (library.lent_out(), reference.lent_out());
+        return Some(format!(
+            "{same}\noutput of library:   {ours:02X?}\noutput of reference: {theirs:02X?}"
+        ));
+    }
+    let place = (0..library.work.len()).find(|at| library.work[*at] != reference.work[*at])?;
+    let place = place as i64 - FENCE as i64;
+    Some(format!("{same}\nthe work areas differ, first at {place}"))
 }

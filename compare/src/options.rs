@@ -1,14 +1,16 @@
 //! What is asked for on the command line.
 
 const USAGE: &str =
-    "usage: compare [--count N] [--seed S] [--swaps N] [--program N] [--why N] [--text N]
-               [--small N] [--fixed N]
+    "usage: compare [--count N] [--seed S] [--swaps N] [--program N] [--why N] [--places N]
+               [--text N] [--small N] [--fixed N]
   --count N     random recordings through the library (150000)
   --seed S      the seed of everything random (1)
   --swaps N     small recordings held against every trace that swaps reach (5000)
   --program N   random recordings through target/bin/judge (300); 0: the program is not run
   --why N       random violations, and as many recordings of any sort, through target/bin/why (400);
                 0: the program is not run
+  --places N    random violations, and as many recordings of any sort, asked by place through the
+                library (300); 0: none is
   --text N      random recordings, and random texts, through target/bin/to_text and from_text (300);
                 0: the programs are not run
   --small N     all small histories (1); 2, 3, ..: longer ones; 0: none
@@ -20,6 +22,7 @@ pub struct Options {
     pub swaps: u64,
     pub program: u64,
     pub why: u64,
+    pub places: u64,
     pub text: u64,
     pub small: usize,
     pub fixed: u64,
@@ -33,6 +36,7 @@ impl Options {
             swaps: 5000,
             program: 300,
             why: 400,
+            places: 300,
             text: 300,
             small: 1,
             fixed: 1,
@@ -50,6 +54,7 @@ impl Options {
                 "--swaps" => options.swaps = number,
                 "--program" => options.program = number,
                 "--why" => options.why = number,
+                "--places" => options.places = number,
                 "--text" => options.text = number,
                 "--small" => options.small = number as usize,
                 "--fixed" => options.fixed = number,

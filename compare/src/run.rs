@@ -7,12 +7,13 @@ use reference::words::words_of_bytes;
 use crate::case::Case;
 use crate::numbers::Numbers;
 use crate::options::Options;
+use crate::places::Asked;
 use crate::program::{shown, Program};
 use crate::shrink::shrink;
 use crate::small::alphabets;
 use crate::swapped::{outcome, Outcome};
 use crate::tally::Tally;
-use crate::{edges, fixed, recordings, regressions, texts};
+use crate::{edges, fixed, places, recordings, regressions, texts};
 
 /// After so many failures a run stops: the first ones say enough.
 const MOST_FAILURES: u64 = 5;
@@ -48,6 +49,9 @@ pub fn run(options: &Options) -> u64 {
     }
     if options.why > 0 {
         run.phase("runs of the program why", |run| run.why(options.why, options.seed));
+    }
+    if options.places > 0 {
+        run.phase("asked by place", |run| run.places(options.places, options.seed));
     }
     if options.text > 0 {
         run.phase("runs of to_text", |run| run.texts_written(options.text, options.seed));
@@ -140,6 +144,28 @@ impl Run {
         inputs.extend((0..count).map(|_| recordings::any(&mut numbers)));
         edges::print(&inputs);
         self.runs(Program::why(), inputs);
+    }
+
+    fn places(&mut self, count: u64, seed: u64) {
+        let mut numbers = Numbers::from_seed(seed.rotate_left(8));
+        let cases = places::cases(kept_and_fixed(), count, &mut numbers);
+        let mut asked = Asked::default();
+        for case in cases {
+            if self.failed >= MOST_FAILURES {
+                return;
+            }
+            match places::compared(&case) {
+                Ok(more) => {
+                    self.passed += more.all();
+                    asked.add(&more);
+                }
+                Err(_) => self.fail(&case, &|case| places::compared(case).err()),
+            }
+        }
+        let Asked { edges, past_the_end, refused } = asked;
+        println!(
+            "of asked by place: {edges} edges, {past_the_end} past the end, {refused} refused"
+        );
     }
 
     fn texts_written(&mut self, count: u64, seed: u64) {

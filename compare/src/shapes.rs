@@ -6,11 +6,13 @@ use crate::histories::{stir, History};
 use crate::numbers::Numbers;
 
 pub const SHAPES: usize = 14;
+pub const LONG_CYCLE: usize = 0;
+pub const LONGEST_CYCLE: usize = 11;
 
 /// The shape of that number, in about so many records.
 pub fn shape(which: usize, records: usize, numbers: &mut Numbers) -> Vec<Event> {
     let mut events = match which % SHAPES {
-        0 => long_cycle(records, numbers),
+        LONG_CYCLE => long_cycle(records, numbers),
         1 => readers_then_a_write(records, numbers),
         2 => all_write_one_variable(records, numbers),
         3 => nothing_in_common(records, numbers),
@@ -21,7 +23,7 @@ pub fn shape(which: usize, records: usize, numbers: &mut Numbers) -> Vec<Event> 
         8 => locks_held_over_yields(records, numbers),
         9 => two_sections_in_one_transaction(records, numbers),
         10 => layers(records, numbers),
-        11 => longest_cycle(records, numbers),
+        LONGEST_CYCLE => longest_cycle(records, numbers),
         12 => joins_of_idle_threads(records, numbers),
         _ => forks_of_forks(records, numbers),
     };

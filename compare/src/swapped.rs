@@ -6,6 +6,7 @@ use reference::transactions::serial;
 use reference::{possible_history, Answer};
 
 use crate::case::Case;
+use crate::library;
 
 /// More traces than this are not explored.
 const MOST_TRACES: usize = 4000;
@@ -28,8 +29,7 @@ pub fn outcome(input: &[u8]) -> Outcome {
             "a trace that swaps reach isn't possible, or ends otherwise".into(),
         );
     }
-    let case = Case::plain(input.to_vec());
-    let Some(left) = case.left_by_the_checker() else {
+    let Some(left) = Case::plain(input.to_vec()).lent().left_by(library::judge) else {
         return Outcome::Differs("the checker stopped in a panic".into());
     };
     let cooperable = matches!(left.answer, Answer::Cooperable { .. });
@@ -43,7 +43,7 @@ pub fn outcome(input: &[u8]) -> Outcome {
     if !cooperable {
         return Outcome::Agrees { cooperable };
     }
-    match places(&events, left.lent_out(&case)) {
+    match places(&events, left.lent_out()) {
         Some(places) if !reached.traces.contains(&places) => {
             Outcome::Differs(format!("written: records {places:?}, which swaps don't reach"))
         }

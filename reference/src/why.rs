@@ -36,15 +36,40 @@ pub enum Why {
     Refused { number: u64, record: u64 },
 }
 
-/// What makes the edge at this place of the reported cycle.
-pub fn why(input: &[u8], place: u64) -> Why {
-    if let Answer::Refused { number, record } = judged(input) {
-        return Why::Refused { number, record };
+/// What is said of one recording, whichever place is asked for: a refusal, or what makes each edge
+/// of the reported cycle in order. Without a violation there is none.
+#[derive(Clone, Debug, PartialEq, Eq)]
+pub enum Reasons {
+    Refused { number: u64, record: u64 },
+    OfEdges(Vec<Why>),
+}
+
+impl Reasons {
+    /// What is said of the edge at this place.
+    pub fn at(&self, place: u64) -> Why {
+        match self {
+            Reasons::Refused { number, record } => {
+                Why::Refused { number: *number, record: *record }
+            }
+            Reasons::OfEdges(edges) => {
+                let place = usize::try_from(place).unwrap_or(usize::MAX);
+                edges.get(place).copied().unwrap_or(Why::NoSuchEdge)
+            }
+        }
     }
-    match edges_of_the_cycle(input).get(usize::try_from(place).unwrap_or(usize::MAX)) {
-        Some(because) => *because,
-        None => Why::NoSuchEdge,
+}
+
+/// What makes each edge of the reported cycle. Output and work area end as after a plain judgement.
+pub fn reasons(input: &[u8], out: &mut [u8], work: &mut [u64]) -> Reasons {
+    match judge(input, out, work) {
+        Answer::Refused { number, record } => Reasons::Refused { number, record },
+        _ => Reasons::OfEdges(edges_of_the_cycle(input)),
     }
+}
+
+/// What makes the edge at this place of the reported cycle, the same otherwise.
+pub fn why(input: &[u8], out: &mut [u8], work: &mut [u64], place: u64) -> Why {
+    reasons(input, out, work).at(place)
 }
 
 /// The whole text that the program prints for this standard input.
@@ -148,16 +173,26 @@ mod tests {
         encode_all(&events(text))
     }
 
+    /// The answer for a place, with room to spare; the buffers end as after a plain judgement.
+    fn asked(input: &[u8], place: u64) -> Why {
+        let (mut out, mut work) = (vec![0xEE; input.len() + 9], vec![7; WORK_AREA + 3]);
+        let (mut out_judged, mut work_judged) = (out.clone(), work.clone());
+        judge(input, &mut out_judged, &mut work_judged);
+        let answer = why(input, &mut out, &mut work, place);
+        assert!(out == out_judged && work == work_judged);
+        answer
+    }
+
     /// The text is as expected, and each of its lines is the answer for its place.
     fn prints(text: &str, expected: &str) {
         let input = bytes(text);
         assert_eq!(report(&input), expected);
         for (place, line_of_it) in expected.lines().skip(1).enumerate() {
-            assert_eq!(line(place, &why(&input, place as u64)), format!("{line_of_it}\n"));
+            assert_eq!(line(place, &asked(&input, place as u64)), format!("{line_of_it}\n"));
         }
         let length = expected.lines().count() as u64 - 1;
         for past in [length, length + 1, u64::MAX] {
-            assert_eq!(why(&input, past), Why::NoSuchEdge);
+            assert_eq!(asked(&input, past), Why::NoSuchEdge);
         }
     }
 
@@ -167,7 +202,7 @@ mod tests {
         prints(P6, "violation 5 2\n0 0 3 fork-join 1\n1 3 5 lock 0\n");
         prints(P9, "violation 8 3\n0 3 4 variable 0\n1 5 6 variable 1\n2 7 8 variable 2\n");
         let because = Why::Because { first: 0, second: 2, reason: Reason::ForkJoin, number: 1 };
-        assert_eq!(why(&bytes(P3), 0), because);
+        assert_eq!(asked(&bytes(P3), 0), because);
     }
 
     #[test]
@@ -182,13 +217,24 @@ mod tests {
         let twice = bytes("0 acquire 0\n0 acquire 0\n");
         let late = bytes(&format!("{P3}2 yield\n"));
         for place in [0, 1, 2, u64::MAX] {
-            assert_eq!(why(&[0; 7], place), Why::Refused { number: 1, record: 0 });
-            assert_eq!(why(&[0; 8200], place), Why::Refused { number: 2, record: 0 });
-            assert_eq!(why(&twice, place), Why::Refused { number: 10, record: 1 });
-            assert_eq!(why(&late, place), Why::Refused { number: 8, record: 4 });
+            assert_eq!(asked(&[0; 7], place), Why::Refused { number: 1, record: 0 });
+            assert_eq!(asked(&[0; 8200], place), Why::Refused { number: 2, record: 0 });
+            assert_eq!(asked(&twice, place), Why::Refused { number: 10, record: 1 });
+            assert_eq!(asked(&late, place), Why::Refused { number: 8, record: 4 });
         }
         assert_eq!(report(&late), "refused 8 4\n");
         assert_eq!(report(&[0; 8205]), "refused 2 0\n");
+    }
+
+    #[test]
+    fn short_buffers_are_refused_as_the_checker_refuses_them() {
+        let input = bytes(P3);
+        for place in [0, 1, 2, u64::MAX] {
+            let lent =
+                |out: usize, work: usize| why(&input, &mut vec![0; out], &mut vec![0; work], place);
+            assert_eq!(lent(31, 4095), Why::Refused { number: 3, record: 0 });
+            assert_eq!(lent(32, 4095), Why::Refused { number: 4, record: 0 });
+        }
     }
 
     #[test]

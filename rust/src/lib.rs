@@ -26,6 +26,27 @@ pub enum Answer {
     Refused { number: u64, record: u64 },
 }
 
+/// On what two records conflict, and its number.
+#[derive(Clone, Copy, Debug, PartialEq, Eq)]
+pub enum Reason {
+    Thread(u64),
+    Variable(u64),
+    Lock(u64),
+    /// The thread that is forked or joined.
+    ForkJoin(u64),
+}
+
+/// What is told of an edge of the reported cycle.
+#[derive(Clone, Copy, Debug, PartialEq, Eq)]
+pub enum Told {
+    /// The earliest two records that make the edge, and why they do.
+    Because { first: u64, second: u64, reason: Reason },
+    /// There is no violation, or the place isn't below the cycle's length.
+    NoSuchEdge,
+    /// As `Answer::Refused`.
+    Refused { number: u64, record: u64 },
+}
+
 /// The answer as the library gives it.
 #[repr(C)]
 struct Numbers {
@@ -46,6 +67,35 @@ impl Numbers {
     }
 }
 
+/// What is told of an edge, as the library gives it.
+#[repr(C)]
+struct Values {
+    kind: u64,
+    first: u64,
+    second: u64,
+    reason: u64,
+    number: u64,
+}
+
+impl Values {
+    fn told(self) -> Told {
+        let Values { kind, first, second, reason, number } = self;
+        let reason = match reason {
+            0 => Reason::Thread(number),
+            1 => Reason::Variable(number),
+            2 => Reason::Lock(number),
+            3 => Reason::ForkJoin(number),
+            _ => panic!("the library gives no reason but 0 to 3; it gave {reason}"),
+        };
+        match kind {
+            0 => Told::Because { first, second, reason },
+            1 => Told::NoSuchEdge,
+            2 => Told::Refused { number: first, record: second },
+            _ => panic!("the library tells no kind but 0, 1 and 2; it told {kind}"),
+        }
+    }
+}
+
 /// Judges one recording.
 ///
 /// After cooperable or violation the work area's first 4,096 numbers are 0; the rest of it, and the
@@ -55,9 +105,17 @@ pub fn judge(input: &[u8], out: &mut [u8], work: &mut [u64]) -> Answer {
     library::judge(input, out, work).answer()
 }
 
+/// Judges one recording, and tells why the edge at a place of the reported cycle is there.
+///
+/// Places count from 0; the last edge goes back to the cycle's first transaction. Output and work
+/// area end as after `judge`.
+pub fn why(input: &[u8], out: &mut [u8], work: &mut [u64], place: usize) -> Told {
+    library::why(input, out, work, place).told()
+}
+
 #[cfg(linked)]
 mod library {
-    use super::Numbers;
+    use super::{Numbers, Values};
 
     extern "C" {
         fn quelohuite_judge(
@@ -68,6 +126,15 @@ mod library {
             work: *mut u64,
             work_length: usize,
         ) -> Numbers;
+        fn quelohuite_why(
+            input: *const u8,
+            input_length: usize,
+            output: *mut u8,
+            output_length: usize,
+            work: *mut u64,
+            work_length: usize,
+            place: usize,
+        ) -> Values;
     }
 
     pub fn judge(input: &[u8], out: &mut [u8], work: &mut [u64]) -> Numbers {
@@ -83,11 +150,26 @@ mod library {
             )
         }
     }
+
+    pub fn why(input: &[u8], out: &mut [u8], work: &mut [u64], place: usize) -> Values {
+        // As above.
+        unsafe {
+            quelohuite_why(
+                input.as_ptr(),
+                input.len(),
+                out.as_mut_ptr(),
+                out.len(),
+                work.as_mut_ptr(),
+                work.len(),
+                place,
+            )
+        }
+    }
 }
 
 #[cfg(not(linked))]
 mod library {
-    use super::Numbers;
+    use super::{Numbers, Values};
     use std::cell::RefCell;
     use std::io::{self, Read, Write};
     use std::process::{Child, Command, Stdio};
@@ -112,10 +194,17 @@ mod library {
             Server(child.expect("the kit's emulator starts"))
         }
 
-        fn judge(&mut self, input: &[u8], out: &mut [u8], work: &mut [u64]) -> io::Result<Numbers> {
-            let mut request = Vec::new();
-            for length in [input.len(), out.len(), work.len()] {
-                request.extend((length as u64).to_le_bytes());
+        fn ask(
+            &mut self,
+            function: u64,
+            place: usize,
+            input: &[u8],
+            out: &mut [u8],
+            work: &mut [u64],
+        ) -> io::Result<[u64; 5]> {
+            let mut request = function.to_le_bytes().to_vec();
+            for number in [place, input.len(), out.len(), work.len()] {
+                request.extend((number as u64).to_le_bytes());
             }
             request.extend_from_slice(input);
             request.extend_from_slice(out);
@@ -123,7 +212,7 @@ mod library {
             self.0.stdin.as_mut().expect("it is piped").write_all(&request)?;
 
             let reply = self.0.stdout.as_mut().expect("it is piped");
-            let mut numbers = [0; 24];
+            let mut numbers = [0; 40];
             reply.read_exact(&mut numbers)?;
             reply.read_exact(out)?;
             let mut bytes = vec![0; 8 * work.len()];
@@ -131,8 +220,7 @@ mod library {
             for (number, bytes) in work.iter_mut().zip(bytes.chunks(8)) {
                 *number = number_of(bytes);
             }
-            let [kind, first, second] = [0, 8, 16].map(|at| number_of(&numbers[at..at + 8]));
-            Ok(Numbers { kind, first, second })
+            Ok([0, 8, 16, 24, 32].map(|at| number_of(&numbers[at..at + 8])))
         }
     }
 
@@ -147,10 +235,26 @@ mod library {
         u64::from_le_bytes(bytes.try_into().expect("eight bytes"))
     }
 
-    pub fn judge(input: &[u8], out: &mut [u8], work: &mut [u64]) -> Numbers {
+    fn ask(
+        function: u64,
+        place: usize,
+        input: &[u8],
+        out: &mut [u8],
+        work: &mut [u64],
+    ) -> [u64; 5] {
         SERVER
-            .with(|server| server.borrow_mut().judge(input, out, work))
+            .with(|server| server.borrow_mut().ask(function, place, input, out, work))
             .expect("the server over the library replies")
+    }
+
+    pub fn judge(input: &[u8], out: &mut [u8], work: &mut [u64]) -> Numbers {
+        let [kind, first, second, ..] = ask(0, 0, input, out, work);
+        Numbers { kind, first, second }
+    }
+
+    pub fn why(input: &[u8], out: &mut [u8], work: &mut [u64], place: usize) -> Values {
+        let [kind, first, second, reason, number] = ask(1, place, input, out, work);
+        Values { kind, first, second, reason, number }
     }
 }
 
@@ -171,5 +275,25 @@ mod tests {
         assert_eq!(judged(&recording, 16, 4095), refused(4));
         let cooperable = Answer::Cooperable { records: 2, transactions: 2 };
         assert_eq!(judged(&recording, 16, 4096), cooperable);
+    }
+    #[test]
+    fn an_edge_past_the_cycle_is_none() {
+        // Thread 0 forks thread 1 and writes variable 0; thread 1 writes it in between.
+        let record = |kind, thread, target, value| [0xA7, 0x7A, kind, thread, target, 0, value, 0];
+        let recording =
+            [record(8, 0, 1, 0), record(2, 0, 0, 5), record(2, 1, 0, 6), record(2, 0, 0, 7)]
+                .concat();
+        let mut out = vec![0; recording.len()];
+        let mut work = vec![1; WORK_AREA];
+        let mut asked = |place| why(&recording, &mut out, &mut work, place);
+        let variable = Reason::Variable(0);
+        assert_eq!(asked(0), Told::Because { first: 0, second: 2, reason: Reason::ForkJoin(1) });
+        assert_eq!(asked(1), Told::Because { first: 2, second: 3, reason: variable });
+        assert_eq!(asked(2), Told::NoSuchEdge);
+        assert_eq!(asked(usize::MAX), Told::NoSuchEdge);
+        assert_eq!(out[..4], [0, 0, 1, 0]);
+        assert!(work.iter().all(|&number| number == 0));
+        let refused = why(&recording[..9], &mut out, &mut work, 0);
+        assert_eq!(refused, Told::Refused { number: 1, record: 0 });
     }
 }

@@ -1,5 +1,5 @@
 -- From the arrays to the recording: what the passes over labelled arrays find is what the definitions say of the events.
-use Prim.Native.Nat.{ℕ, zero, suc, pred, _-_, _<_, _≤_, min}
+use Prim.Native.Nat.{ℕ, zero, suc, pred, _-_, _<_, _≤_, _^_, min}
 use native.Mathlib.Omega.{arith}
 use native.Mathlib.Numerals.{sub-one}
 use mathlib.Core.Path.{_≡_, sym, ap, ap₂, _∙_, subst}
@@ -12,23 +12,33 @@ use borrow.Author.Tests.{le-leb, lt-leb, leb-false}
 use Rattle.record.specs.declared.Event.{Event}
 use Rattle.trace.specs.Lists.{firstOf, from, over}
 use Rattle.trace.specs.Paths.{hasEdge, reaches, cyclic}
-use Rattle.trace.specs.Order.{taking}
 use Rattle.rows.specs.Bits.{has, cleared}
 use Rattle.graph.specs.declared.Arranged.{Arranged}
 use Rattle.graph.specs.declared.Arranged.the-variants.{Unfit, Ordered, Cyclic}
 use Rattle.graph.specs.declared.label.Labelling.the-variants.{Done}
 use Rattle.graph.specs.Transactions.{none-yet, Labelled, labelled, transactions, transactionLimit}
 use Rattle.graph.specs.Edges.{edges}
-use Rattle.graph.specs.Serial.{threadOf, serialOrder}
-use Rattle.graph.specs.Violation.{edgesUpTo, cyclicUpTo, shortest, transactionAt, walk, cycleOf}
+use Rattle.graph.specs.Serial.{threadOf}
+use Rattle.graph.specs.Violation.{edgesUpTo, cyclicUpTo, shortest, transactionAt}
 use Rattle.graph.specs.Arranged.{workSize, Arrangement, named, found, fits, arranged}
-use Rattle.graph.specs.Engine.{recordAt, held, Labels, Sought}
+use Rattle.graph.specs.Engine.{recordAt, held, Labels, Stands, Sought}
+use Rattle.graph.specs.Finished.{orderBy, walkBy, cycleBy, namedBy, foundBy, finished}
 use Rattle.trace.proofs.Tests.{by, T-of}
 use Rattle.trace.proofs.Lists.{Among, first-same, earliest}
 use Rattle.rows.proofs.Laws.{cleared-is}
 use Rattle.graph.proofs.Numbers.{sane-none, labels-lt, labelled-take, thread-edge}
 use Rattle.graph.proofs.Round.{blank, number-at, labelled-length}
 use Rattle.graph.proofs.Held.{length-held, held-at, held-take}
+
+-- The shortest prefix with a cycle has p records, or there is none where p is 0. The rows stand for the edges, or their row of the last record's
+-- transaction does for those of that prefix. Past its first 4,096 numbers the work area is as before
+pub record Ready (es : List Event) (p : ℕ) (before work : List ℕ) : Type 0 where
+  pub first : p ≡ shortest es
+  pub stands : p ≡ 0 → Stands work (edges (labelled es))
+  pub row : (k : ℕ) → p ≡ suc k → (b : ℕ) → b < 512 → has work (transactionAt es k) b ≡ reaches (edgesUpTo es (suc k)) b (transactionAt es k)
+  pub small : (i : ℕ) → getD work i 0 < 2 ^ 64
+  pub size : length work ≡ length before
+  pub rest : drop workSize work ≡ drop workSize before
 
 among-at : {A : Type 0} (d : A) (l : List A) (k : ℕ) → k < length l → Among (getD l k d) l
 among-at d [] k h = absurd (omega arith)
@@ -64,49 +74,65 @@ module _ (n : ℕ) (all : List Event) (labels : List ℕ) (m : ℕ) (h : Labels 
   shortest-is = sym (first-same (cyclicUpTo es) (λ k. cyclic (edges (take k xs))) 0 (from 1 (length es)) (λ k i. ap (λ l. cyclic (edges l)) (prefix-is k))
       ∙ ap (λ l. firstOf (λ k. cyclic (edges (take k xs))) 0 (from 1 l)) (sym (labelled-length none-yet es) ∙ ap length (h .0)))
 
-  -- all transactions in serial order
-  pub order-named : taking m (threadOf xs) (edges xs) m [] ≡ named es 0
-  unfolding named serialOrder
-  order-named = ap₂ (λ k l. taking k (threadOf l) (edges l) k []) (h .1) (sym (h .0))
+  -- the transaction of record k
+  at-label : (k : ℕ) → k < n → transactionAt es k ≡ getD labels k 0
+  unfolding transactionAt
+  at-label k lt = ap (λ l. getD (map (λ x. x .transaction) l) k 0) (h .0) ∙ number-at xs k ∙ ap (λ x. x .transaction) (held-at k n all labels blank lt)
 
-  pub order-found : Ordered m ≡ found es 0
-  unfolding found
-  order-found = ap Ordered (h .1)
+  -- all transactions in serial order, by the rows
+  pub order-named : (work : List ℕ) → orderBy (threadOf xs) m work ≡ namedBy es 0 work
+  unfolding namedBy
+  order-named work = ap₂ (λ k l. orderBy (threadOf l) k work) (h .1) (sym (h .0))
 
-  -- the cycle of the p records of the shortest prefix with one
-  module _ (p : ℕ) (some : 0 < p) (work : List ℕ) (s : Sought xs labels work work p) where
+  pub order-found : (work : List ℕ) → Ordered m ≡ foundBy es 0 work
+  unfolding foundBy
+  order-found work = ap Ordered (h .1)
+
+  -- the cycle of the first p records, by the rows
+  module _ (p : ℕ) (some : 0 < p) (inside : p ≤ n) (work : List ℕ) where
     last : p ≡ suc (p - 1)
     last = omega arith
 
-    pub prefix-inside : p ≤ n
-    prefix-inside =
-        omega (arith, earliest (λ j. cyclic (edges (take j xs))) 1 (length xs) (p - 1) (sym (s .first) ∙ last) .inside, length-held n all labels)
-
-    -- row t of the last record's transaction t holds who leads to t
-    pub row-is : (b : ℕ) → b < 512 → has work (getD labels (p - 1) 0) b ≡ reaches (edges (held p all labels)) b (getD labels (p - 1) 0)
-    row-is b in-b = s .row (p - 1) last b in-b
-        ∙ ap (λ l. reaches (edges l) b (getD labels (p - 1) 0)) (ap (λ j. take j xs) (sym last) ∙ held-take p n all labels prefix-inside)
-
     abbrev goes : List ℕ
-    goes = walk m (edges (held p all labels)) (getD labels (p - 1) 0) m (getD labels (p - 1) 0)
+    goes = walkBy m (edges (held p all labels)) work (getD labels (p - 1) 0) m (getD labels (p - 1) 0)
 
-    cycle-is : goes ≡ cycleOf es p
-    unfolding cycleOf edgesUpTo transactionAt
+    cycle-is : goes ≡ cycleBy es p work
+    unfolding cycleBy edgesUpTo
     cycle-is =
-        let at : transactionAt es (pred p) ≡ getD labels (p - 1) 0 =
-        ap (λ l. getD (map (λ x. x .transaction) l) (pred p) 0) (h .0) ∙ number-at xs (pred p) ∙ ap (λ k. getD xs k blank .transaction) (sym (sub-one p))
-        ∙ ap (λ x. x .transaction) (held-at (p - 1) n all labels blank (omega (arith, prefix-inside))) in
-        let g : edges (labelled (take p es)) ≡ edges (held p all labels) = ap edges (prefix-is p ∙ held-take p n all labels prefix-inside) in
-        ap (λ c. walk c (edges (held p all labels)) (getD labels (p - 1) 0) c (getD labels (p - 1) 0)) (h .1)
-        ∙ ap₂ (λ d t. walk (transactions es) d t (transactions es) t) (sym g) (sym at)
+        let at : transactionAt es (pred p) ≡ getD labels (p - 1) 0 = ap (transactionAt es) (sym (sub-one p)) ∙ at-label (p - 1) (omega arith) in
+        let g : edges (labelled (take p es)) ≡ edges (held p all labels) = ap edges (prefix-is p ∙ held-take p n all labels inside) in
+        ap (λ c. walkBy c (edges (held p all labels)) work (getD labels (p - 1) 0) c (getD labels (p - 1) 0)) (h .1)
+        ∙ ap₂ (λ d t. walkBy (transactions es) d work t (transactions es) t) (sym g) (sym at)
 
-    pub cycle-named : goes ≡ named es p
-    unfolding named
-    cycle-named = cycle-is ∙ ap (cycleOf es) last ∙ ap (named es) (sym last)
+    pub cycle-named : goes ≡ namedBy es p work
+    unfolding namedBy
+    cycle-named = cycle-is ∙ ap (λ k. cycleBy es k work) last ∙ ap (λ k. namedBy es k work) (sym last)
 
-    pub cycle-found : Cyclic (p - 1) (length goes) ≡ found es p
-    unfolding found
-    cycle-found = ap (λ l. Cyclic (p - 1) (length l)) (cycle-is ∙ ap (cycleOf es) last) ∙ ap (found es) (sym last)
+    pub cycle-found : Cyclic (p - 1) (length goes) ≡ foundBy es p work
+    unfolding foundBy
+    cycle-found = ap (λ l. Cyclic (p - 1) (length l)) (cycle-is ∙ ap (λ k. cycleBy es k work) last) ∙ ap (λ k. foundBy es k work) (sym last)
+
+  -- what the search for the shortest prefix with a cycle leaves is ready to be finished
+  module _ (p : ℕ) (before work : List ℕ) (s : Sought xs labels before work p) where
+    pub prefix-inside : p ≤ n
+    prefix-inside = by (leb p 0)
+        (λ e. omega (arith, leb→le p 0 (T-of e)))
+        (λ e. let some : 0 < p = leb-false p 0 e in
+        let last : p ≡ suc (p - 1) = omega arith in
+        omega (arith, earliest (λ j. cyclic (edges (take j xs))) 1 (length xs) (p - 1) (sym (s .first) ∙ last) .inside, length-held n all labels))
+
+    pub ready : (start : List ℕ) → ((i : ℕ) → getD work i 0 < 2 ^ 64) → length work ≡ length start → drop workSize before ≡ drop workSize start → Ready es p start work
+    unfolding edgesUpTo
+    ready start small size rest = record {
+      first = s .first ∙ shortest-is;
+      stands = λ z. subst (λ l. Stands work (edges l)) (sym (h .0)) (s .stands z);
+      row = λ k q b in-b. let at : transactionAt es k ≡ getD labels k 0 = at-label k (omega (arith, prefix-inside)) in
+          subst (λ t. has work t b ≡ reaches (edges (labelled (take (suc k) es))) b t) (sym at)
+          (s .row k q b in-b ∙ ap (λ l. reaches (edges l) b (getD labels k 0)) (sym (prefix-is (suc k))));
+      small = small;
+      size = size;
+      rest = s .rest ∙ rest;
+    }
 
 -- ---- the whole answer
 
@@ -123,19 +149,46 @@ take-least n size all e = by (leb n size)
 abbrev pub whole : Arranged → List ℕ → List ℕ → Arrangement
 whole answer order work = record { answer = answer; order = order; work = work }
 
+-- the work area at the end, where only its first 4,096 numbers were touched
+pub cleared-over : (work w : List ℕ) → workSize ≤ length w → drop workSize w ≡ drop workSize work → cleared w ≡ over (replicate workSize 0) work
+unfolding over
+cleared-over work w long rest =
+    let n : ℕ = workSize in
+    let z : ℕ = 0 in
+    cleared-is w long ∙ ap (λ l. replicate n z ++ l) (rest ∙ ap (λ k. drop k work) (sym (length-replicate n z)))
+
 module _ (es : List Event) (order work : List ℕ) where
   -- what doesn't fit changes nothing
   unfit : fits es work ≡ false → whole Unfit order work ≡ arranged es order work
   unfolding arranged
   unfit e = sym (rw (e, arranged))
 
-  pub too-many : transactionLimit < transactions es → whole Unfit order work ≡ arranged es order work
+  unfinished : (p : ℕ) → (fits es work && leb p (length es)) ≡ false → whole Unfit order work ≡ finished es p order work
+  unfolding finished
+  unfinished p e = sym (rw (e, finished))
+
+  many-unfit : transactionLimit < transactions es → fits es work ≡ false
   unfolding fits
-  too-many h = unfit (ap (λ b. b && leb workSize (length work)) (lt-leb (transactions es) transactionLimit h))
+  many-unfit h = ap (λ b. b && leb workSize (length work)) (lt-leb (transactions es) transactionLimit h)
+
+  short-unfit : length work < workSize → fits es work ≡ false
+  unfolding fits
+  short-unfit h = ap (λ b. leb (transactions es) transactionLimit && b) (lt-leb workSize (length work) h) ∙ and-false (leb (transactions es) transactionLimit)
+
+  pub too-many : transactionLimit < transactions es → whole Unfit order work ≡ arranged es order work
+  too-many h = unfit (many-unfit h)
 
   pub too-short : length work < workSize → whole Unfit order work ≡ arranged es order work
-  unfolding fits
-  too-short h = unfit (ap (λ b. leb (transactions es) transactionLimit && b) (lt-leb workSize (length work) h) ∙ and-false (leb (transactions es) transactionLimit))
+  too-short h = unfit (short-unfit h)
+
+  pub ends-many : (p : ℕ) → transactionLimit < transactions es → whole Unfit order work ≡ finished es p order work
+  ends-many p h = unfinished p (ap (λ b. b && leb p (length es)) (many-unfit h))
+
+  pub ends-short : (p : ℕ) → length work < workSize → whole Unfit order work ≡ finished es p order work
+  ends-short p h = unfinished p (ap (λ b. b && leb p (length es)) (short-unfit h))
+
+  pub ends-few : (p : ℕ) → length es < p → whole Unfit order work ≡ finished es p order work
+  ends-few p h = unfinished p (ap (λ b. fits es work && b) (lt-leb p (length es) h) ∙ and-false (fits es work))
 
   -- what fits: the answer, the order written over, and the work area cleared
   module _ (few : transactions es ≤ transactionLimit) (long : workSize ≤ length work) where
@@ -143,19 +196,12 @@ module _ (es : List Event) (order work : List ℕ) where
     unfolding fits
     fit = ap₂ (λ b c. b && c) (le-leb (transactions es) transactionLimit few) (le-leb workSize (length work) long)
 
-    arranged-fit : arranged es order work ≡ whole (found es (shortest es)) (over (named es (shortest es)) order) (over (replicate workSize 0) work)
+    pub arranged-fit : arranged es order work ≡ whole (found es (shortest es)) (over (named es (shortest es)) order) (over (replicate workSize 0) work)
     unfolding arranged
     arranged-fit = rw (fit, arranged)
 
-    pub fitting : (p : ℕ) (answer : Arranged) (order′ w work′ : List ℕ) → p ≡ shortest es → answer ≡ found es p → order′ ≡ over (named es p) order
-        → workSize ≤ length w → drop workSize w ≡ drop workSize work → work′ ≡ cleared w
-        → whole answer order′ work′ ≡ arranged es order work
-    unfolding over
-    fitting p answer order′ w work′ is a o long′ rest c =
-        let n : ℕ = workSize in
-        let z : ℕ = 0 in
-        let clear : cleared w ≡ over (replicate n z) work =
-        cleared-is w long′ ∙ ap (λ l. replicate n z ++ l) (rest ∙ ap (λ k. drop k work) (sym (length-replicate n z))) in
-        ap (λ x. whole x order′ work′) (a ∙ ap (found es) is)
-        ∙ ap₂ (λ l v. whole (found es (shortest es)) l v) (o ∙ ap (λ k. over (named es k) order) is) (c ∙ clear)
-        ∙ sym arranged-fit
+    pub finished-fit : (p : ℕ) → p ≤ length es → finished es p order work ≡ whole (foundBy es p work) (over (namedBy es p work) order) (over (replicate workSize 0) work)
+    unfolding finished
+    finished-fit p h =
+        let yes : (fits es work && leb p (length es)) ≡ true = ap₂ (λ b c. b && c) fit (le-leb p (length es) h) in
+        rw (yes, finished)

@@ -5,7 +5,7 @@ use mathlib.Core.Path.{_≡_}
 use mathlib.Core.Bool.{Bool, true, false, cond, not, _&&_, _||_}
 use mathlib.Core.List.{List, [], _∷_, _++_}
 use lib.ListN.{length, getD, take, drop}
-use lib.Dec.{eqb, ltb}
+use lib.Dec.{eqb, ltb, leb}
 use Rattle.record.specs.declared.Event.{Event}
 use Rattle.record.specs.declared.Op.the-variants.{Read}
 use Rattle.trace.specs.Lists.{firstOf, from, below}
@@ -70,6 +70,11 @@ pub record Sought (xs : List Labelled) (labels : List ℕ) (before after : List 
   pub rest : drop 4096 after ≡ drop 4096 before
 
 -- ---- the serial order by counts. Row 0 of `taken` holds the transactions that are taken
+
+-- a number above the threads of n transactions, and no higher than need be
+unfoldable pub above : (ℕ → ℕ) → ℕ → ℕ
+above thread zero = 0
+above thread (suc n) = cond (leb (above thread n) (thread n)) (suc (thread n)) (above thread n)
 
 -- the lowest of n transactions, from a on, that is of thread t and isn't taken; n where there is none
 unfoldable pub nextFrom : (ℕ → ℕ) → ℕ → List ℕ → ℕ → ℕ → ℕ

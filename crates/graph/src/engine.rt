@@ -6,10 +6,11 @@ ghost use Prim.Native.Nat.{_≤_};
 ghost use lib.ListN.{length, take};
 ghost use Rattle.trace.specs.Lists.{over};
 ghost use Rattle.graph.specs.declared.label.Labelling.the-variants.{Done};
-ghost use Rattle.graph.specs.Arranged.{Arrangement, named, found, arranged};
-ghost use Rattle.graph.specs.Engine.{held, Labels, Sought};
+ghost use Rattle.graph.specs.Arranged.{Arrangement, arranged};
+ghost use Rattle.graph.specs.Engine.{Labels};
+ghost use Rattle.graph.specs.Finished.{namedBy, foundBy, finished};
 
-// Writes the transactions that are named: all of n in serial order, or the cycle of the shortest prefix with one.
+// Writes the transactions that the rows name: all of n in serial order, or the cycle of a prefix.
 fn name_all(
     all: [Event; 1024],
     labels: &[u16],
@@ -19,10 +20,10 @@ fn name_all(
     work: &[u64],
     order: &mut [u16],
 ) -> Arranged
-    requires { ⌜ (count ≤ 1024) × (count ≤ length (now labels)) × (512 ≤ length (now order)) ⌝ }
+    requires { ⌜ (prefix ≤ count) × (count ≤ 1024) × (count ≤ length (now labels)) × (512 ≤ length (now order)) × (4096 ≤ length (now work)) ⌝ }
     requires { ⌜ Labels count all (now labels) (Done n) ⌝ }
-    requires { ⌜ Sought (held count all (now labels)) (now labels) (now work) (now work) prefix ⌝ }
-    ensures { λ r. ⌜ (r ≡ found (take count all) prefix) × (now (order .exit) ≡ over (named (take count all) prefix) (now (order .entry))) ⌝ }
+    ensures { λ r. ⌜ (r ≡ foundBy (take count all) prefix (now (work .entry)))
+        × (now (order .exit) ≡ over (namedBy (take count all) prefix (now (work .entry))) (now (order .entry))) ⌝ }
 {
     if prefix == 0 {
         crate::order::take_all(all, labels, count, work, n, order);
@@ -37,6 +38,26 @@ fn name_all(
         record: last,
         length: length as usize,
     }
+}
+
+// Names the transactions, and clears the rows.
+pub fn finish_labelled(
+    all: [Event; 1024],
+    labels: &[u16; 1024],
+    count: usize,
+    n: u16,
+    prefix: usize,
+    order: &mut [u16],
+    work: &mut [u64],
+) -> Arranged
+    requires { ⌜ (prefix ≤ count) × (count ≤ 1024) × (512 ≤ length (now order)) × (4096 ≤ length (now work)) ⌝ }
+    requires { ⌜ Labels count all (now labels) (Done n) ⌝ }
+    ensures { λ r. ⌜ _≡_ {A = Arrangement} (record { answer = r; order = now (order .exit); work = now (work .exit) })
+        (finished (take count all) prefix (now (order .entry)) (now (work .entry))) ⌝ }
+{
+    let answer = name_all(all, labels, count, n, prefix, work, order);
+    rows::clear(work);
+    answer
 }
 
 // Arranges count events of n transactions, with a work area that is long enough.
@@ -55,7 +76,5 @@ pub fn arrange_labelled(
 {
     rows::begin(work);
     let prefix = crate::reach::first_cycle(work, all, labels, count);
-    let answer = name_all(all, labels, count, n, prefix, work, order);
-    rows::clear(work);
-    answer
+    finish_labelled(all, labels, count, n, prefix, order, work)
 }

@@ -13,6 +13,7 @@ ghost use mathlib.Core.Path.{_≡_};
 ghost use Prim.Native.Nat.{min};
 ghost use lib.ListN.{take};
 ghost use Rattle.graph.specs.Arranged.{Arrangement, arranged};
+ghost use Rattle.graph.specs.Finished.{finished};
 ghost use Rattle.graph.specs.Conflict.{conflict};
 ghost use Rattle.graph.specs.Transactions.{tallyOf, numbered, counted};
 
@@ -102,6 +103,34 @@ pub fn arrange(
         Labelling::Full => Arranged::Unfit,
         Labelling::Done { transactions } => {
             engine::arrange_labelled(all, &labels, number, transactions, order, work)
+        }
+    }
+}
+
+// Names the transactions of the first count of the events by the rows that the work area holds, and clears it: all in serial order where the
+// prefix is 0, or else the cycle of so many records. Where a prefix has more, it is unfit as well, and nothing changes.
+pub fn finish(
+    all: [Event; 1024],
+    count: usize,
+    prefix: usize,
+    order: &mut [u16; 512],
+    work: &mut [u64],
+) -> Arranged
+    ensures { λ r. ⌜ _≡_ {A = Arrangement} (record { answer = r; order = now (order .exit); work = now (work .exit) })
+        (finished (take count all) prefix (now (order .entry)) (now (work .entry))) ⌝ }
+{
+    let number = at_most_all(count);
+    if work.len() < 4096 {
+        return Arranged::Unfit;
+    }
+    if number < prefix {
+        return Arranged::Unfit;
+    }
+    let mut labels = [0u16; 1024];
+    match label::label_all(all, number, &mut labels) {
+        Labelling::Full => Arranged::Unfit,
+        Labelling::Done { transactions } => {
+            engine::finish_labelled(all, &labels, number, transactions, prefix, order, work)
         }
     }
 }

@@ -2,18 +2,15 @@
 // one thread are never both available, so only each thread's next one is looked at; for that one there is a count of the ancestors not yet taken.
 use record::Event;
 ghost use mathlib.Core.Path.{_≡_};
-ghost use mathlib.Core.Bool.{false, cond};
-ghost use mathlib.Core.List.{[]};
+ghost use mathlib.Core.Bool.{cond};
 ghost use Prim.Native.Nat.{ℕ, _-_, _≤_, _<_};
 ghost use lib.Dec.{eqb};
 ghost use lib.ListN.{length, getD, replicate};
 ghost use Rattle.trace.specs.Lists.{firstOf, below, over};
-ghost use Rattle.trace.specs.Paths.{cyclic};
-ghost use Rattle.trace.specs.Order.{taking};
 ghost use Rattle.rows.specs.Bits.{has};
-ghost use Rattle.graph.specs.declared.label.Labelling.the-variants.{Done};
-ghost use Rattle.graph.specs.Engine.{held, Few, Labels, Stands, nextFrom, leftOf, countOrder, Counts};
-ghost use Rattle.graph.specs.Edges.{edges};
+ghost use Rattle.graph.specs.Engine.{held, Few, nextFrom, leftOf, countOrder, Counts};
+ghost use Rattle.graph.specs.Engine as Engine;
+ghost use Rattle.graph.specs.Finished.{orderBy};
 ghost use Rattle.graph.specs.Serial.{threadOf};
 
 // The thread of each transaction, into an array of zeros: the last record first, so that each transaction's first is left.
@@ -30,10 +27,10 @@ fn note_threads(all: [Event; 1024], labels: &[u16], count: usize, threads: &mut 
     }
 }
 
-// A number above the threads of n transactions.
+// The lowest number above the threads of n transactions.
 fn above_threads(threads: &[u8], n: u16) -> usize
     requires { ⌜ n ≤ length (now threads) ⌝ }
-    ensures { λ r. ⌜ (r ≤ 256) × ((a : ℕ) → a < n → getD (now (threads .entry)) a 0 < r) ⌝ }
+    ensures { λ r. ⌜ (r ≤ 256) × (r ≡ Engine.above (λ a. getD (now (threads .entry)) a 0) n) ⌝ }
 {
     let mut above = 0;
     let mut a = 0;
@@ -143,7 +140,7 @@ fn take_ready(work: &[u64], threads: &[u8], n: u16, m: usize, order: &mut [u16])
     }
 }
 
-// Writes the serial order of n transactions, where the rows stand for the edges and there is no cycle.
+// Writes the serial order of n transactions, by the rows.
 pub fn take_all(
     all: [Event; 1024],
     labels: &[u16],
@@ -152,11 +149,9 @@ pub fn take_all(
     n: u16,
     order: &mut [u16],
 )
-    requires { ⌜ (count ≤ 1024) × (count ≤ length (now labels)) × (n ≤ length (now order)) ⌝ }
-    requires { ⌜ Labels count all (now labels) (Done n) ⌝ }
-    requires { ⌜ Stands (now work) (edges (held count all (now labels))) × (cyclic (edges (held count all (now labels))) ≡ false) ⌝ }
-    ensures { λ _. ⌜ now (order .exit)
-        ≡ over (taking n (threadOf (held count all (now (labels .entry)))) (edges (held count all (now (labels .entry)))) n []) (now (order .entry)) ⌝ }
+    requires { ⌜ (count ≤ 1024) × (count ≤ length (now labels)) × (n ≤ 512) × (n ≤ length (now order)) × (4096 ≤ length (now work)) ⌝ }
+    requires { ⌜ Few count (now labels) ⌝ }
+    ensures { λ _. ⌜ now (order .exit) ≡ over (orderBy (threadOf (held count all (now (labels .entry)))) n (now (work .entry))) (now (order .entry)) ⌝ }
 {
     let mut threads = [0u8; 512];
     note_threads(all, labels, count, &mut threads);

@@ -1,9 +1,11 @@
-// The checker for C and Rust: one exported function over `checker::judge`, with its whole promise.
+// The checker for C and Rust: exported functions over `checker::judge` and `reasons::why`, each with its whole promise.
 use checker::Answer;
 ghost use mathlib.Core.Path.{_≡_};
+ghost use mathlib.Core.List.{[], _∷_};
 ghost use Rattle.checker.specs.Verdict.{numbers};
 ghost use Rattle.checker.specs.Judged.{Judged, judged};
-ghost use Rattle.quelohuite.specs.Told.{told};
+ghost use Rattle.reasons.specs.Why as Why;
+ghost use Rattle.quelohuite.specs.Told.{told, toldWhy, inFive};
 
 // An answer in numbers. Kind 0 is cooperable: records and transactions. Kind 1 is violation: record and cycle length.
 // Kind 2 is refused: number and record.
@@ -47,4 +49,64 @@ pub extern "C" fn quelohuite_judge(input: &[u8], out: &mut [u8], work: &mut [u64
 {
     let answer = checker::judge(input, out, work);
     in_numbers(answer)
+}
+
+// What is told of an edge of the cycle, in numbers. Kind 0 is because: first record, second record, reason (0 thread, 1 variable, 2 lock,
+// 3 fork/join) and its number. Kind 1 is no such edge. Kind 2 is refused: number and record. What a kind doesn't have is 0.
+#[repr(C)]
+pub struct ToldWhy {
+    pub kind: u64,
+    pub first: u64,
+    pub second: u64,
+    pub reason: u64,
+    pub number: u64,
+}
+
+// A kind that has no reason.
+fn without_reason(kind: u64, first: u64, second: u64) -> ToldWhy
+    ensures { λ r. ⌜ toldWhy r ≡ kind ∷ first ∷ second ∷ 0 ∷ 0 ∷ [] ⌝ }
+{
+    ToldWhy {
+        kind,
+        first,
+        second,
+        reason: 0,
+        number: 0,
+    }
+}
+
+fn in_five(told: reasons::Told) -> ToldWhy
+    ensures { λ r. ⌜ toldWhy r ≡ inFive (Why.numbers told) ⌝ }
+{
+    match told {
+        reasons::Told::Because(cause) => {
+            let reason = cause.reason;
+            ToldWhy {
+                kind: 0,
+                first: cause.first as u64,
+                second: cause.second as u64,
+                reason: reasons::name_of(reason) as u64,
+                number: reasons::number_of(reason) as u64,
+            }
+        }
+        reasons::Told::NoSuchEdge => without_reason(1, 0, 0),
+        reasons::Told::Refused(refusal) => {
+            without_reason(2, refusal.number as u64, refusal.record as u64)
+        }
+    }
+}
+
+// Judges a recording and tells why the edge at a place of the reported cycle is there; the output and the work area end as after judging.
+#[no_mangle]
+pub extern "C" fn quelohuite_why(
+    input: &[u8],
+    out: &mut [u8],
+    work: &mut [u64],
+    place: usize,
+) -> ToldWhy
+    ensures { λ r. ⌜ (let told = Why.asked (now (input .entry)) (now (out .entry)) (now (work .entry)) place in
+        (toldWhy r ≡ inFive (told .answer)) × (now (out .exit) ≡ told .out) × (now (work .exit) ≡ told .work)) ⌝ }
+{
+    let told = reasons::why(input, out, work, place);
+    in_five(told)
 }

@@ -8,7 +8,7 @@ use checker::Refusal;
 ghost use mathlib.Core.Path.{_≡_};
 ghost use Rattle.checker.specs.Verdict as Verdict;
 ghost use Rattle.checker.specs.Judged.{Judged, judged};
-ghost use Rattle.reasons.specs.Why.{numbers, Asked, asked};
+ghost use Rattle.reasons.specs.Why.{nameOf, numberOf, numbers, Asked, asked};
 ghost use Rattle.reasons.specs.Lines.{explained};
 
 // On what two operations conflict: the thread, variable or lock of both, or the thread that one of them forks or joins.
@@ -17,6 +17,30 @@ pub enum Reason {
     Variable(u8),
     Lock(u8),
     ForkJoin(u8),
+}
+
+// A reason's number, by its place in the order thread, variable, lock, fork/join.
+pub fn name_of(reason: Reason) -> u16
+    ensures { λ r. ⌜ r ≡ nameOf reason ⌝ }
+{
+    match reason {
+        Reason::Thread(_) => 0,
+        Reason::Variable(_) => 1,
+        Reason::Lock(_) => 2,
+        Reason::ForkJoin(_) => 3,
+    }
+}
+
+// Which thread, variable or lock it is.
+pub fn number_of(reason: Reason) -> u16
+    ensures { λ r. ⌜ r ≡ numberOf reason ⌝ }
+{
+    match reason {
+        Reason::Thread(thread) => thread as u16,
+        Reason::Variable(var) => var as u16,
+        Reason::Lock(lock) => lock as u16,
+        Reason::ForkJoin(child) => child as u16,
+    }
 }
 
 // What makes an edge: two records, and the reason.

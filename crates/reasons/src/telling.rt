@@ -1,5 +1,4 @@
 // What is told of all edges of a cycle at once: four numbers for each.
-use crate::Reason;
 use crate::searching;
 use record::Event;
 ghost use Prim.Native.Nat.{_*_, _≤_};
@@ -8,32 +7,7 @@ ghost use lib.ListN.{length};
 ghost use Rattle.trace.specs.Lists.{each, over, below};
 ghost use Rattle.graph.specs.Engine.{held};
 ghost use Rattle.checker.specs.Demand3.{numbersIn};
-ghost use Rattle.reasons.specs.Why.{nameOf, numberOf};
 ghost use Rattle.reasons.specs.Telling.{lineAt};
-
-// A reason's number, by its place in the order thread, variable, lock, fork/join.
-fn name_of(reason: Reason) -> u16
-    ensures { λ r. ⌜ r ≡ nameOf reason ⌝ }
-{
-    match reason {
-        Reason::Thread(_) => 0,
-        Reason::Variable(_) => 1,
-        Reason::Lock(_) => 2,
-        Reason::ForkJoin(_) => 3,
-    }
-}
-
-// Which thread, variable or lock it is.
-fn number_of(reason: Reason) -> u16
-    ensures { λ r. ⌜ r ≡ numberOf reason ⌝ }
-{
-    match reason {
-        Reason::Thread(thread) => thread as u16,
-        Reason::Variable(var) => var as u16,
-        Reason::Lock(lock) => lock as u16,
-        Reason::ForkJoin(child) => child as u16,
-    }
-}
 
 // Writes a line for each edge of the cycle of `size` transactions that an output holds: first record, second record, reason, its number.
 pub fn write_lines(
@@ -54,8 +28,8 @@ pub fn write_lines(
         let reason = cause.reason;
         lines[4 * place] = cause.first as u16;
         lines[4 * place + 1] = cause.second as u16;
-        lines[4 * place + 2] = name_of(reason);
-        lines[4 * place + 3] = number_of(reason);
+        lines[4 * place + 2] = crate::name_of(reason);
+        lines[4 * place + 3] = crate::number_of(reason);
         place += 1;
     }
 }

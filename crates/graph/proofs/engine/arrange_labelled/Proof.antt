@@ -7,7 +7,8 @@ use lib.ListN.{length, take, drop}
 use Rattle.rows.proofs.Laws.{rest-begun}
 use Rattle.graph.specs.Engine.{Stands}
 use Rattle.graph.proofs.Standing.{begun-stands}
-use Rattle.graph.proofs.Arranging.{labels-below, shortest-is, fitting}
+use Rattle.graph.proofs.Arranging.{labels-below, prefix-inside, ready}
+use Rattle.graph.proofs.Finishing.{finished-right}
 use borrow.Author.Needs.{needs}
 use Rattle.graph.proofs.engine.arrange_labelled.Statement.{statement}
 use Rattle.graph.proofs.engine.arrange_labelled.Tie as tie
@@ -20,11 +21,12 @@ first-cycle-requires c κs =
     let s = c .before .before .before .before .before .before .before in
     ((omega arith, λ i l. omega (arith, labels-below (s .args .count) (s .args .all) (s .args .labels .now) (s .args .n) (s .pre .1) i l, s .pre .1 .2)), subst (λ (w : List ℕ). Stands w []) (sym (c .before .before .before .begin .ensures)) (begun-stands (s .args .work .now) (omega arith)))
 
-name-all-requires : tie.Need-name-all-requires
-name-all-requires c κs = search needs
-
-clear-requires : tie.Need-clear-requires
-clear-requires c κs = search needs
+finish-labelled-requires : tie.Need-finish-labelled-requires
+finish-labelled-requires c κs =
+    let sought = c .before .before .before .before .first-cycle in
+    let s = c .before .before .before .before .before .before .before .before .before .before .before .before in
+    let inside = prefix-inside (s .args .count) (s .args .all) (s .args .labels .now) (s .args .n) (s .pre .1) (sought .result) _ (sought .last .0) (sought .ensures) in
+    ((inside, omega arith, omega arith, omega arith), s .pre .1)
 
 same-length : tie.Need-same-length
 same-length c = search needs
@@ -34,17 +36,17 @@ same-length-2 c = search needs
 
 returns : tie.Need-returns
 returns c =
-    let cleared = c .before .before .clear in
-    let named = c .before .before .before .before .before .before .name-all in
-    let sought = c .before .before .before .before .before .before .before .before .before .before .before .before .first-cycle in
-    let begun = c .before .before .before .before .before .before .before .before .before .before .before .before .before .before .before .before .begin in
-    let s = c .before .before .before .before .before .before .before .before .before .before .before .before .before .before .before .before .before .before .before .before in
+    let ended = c .before .before .before .before .finish-labelled in
+    let known = c .before .before .before .before .before .before .before .slice-known4 in
+    let sought = c .before .before .before .before .before .before .before .before .before .first-cycle in
+    let begun = c .before .before .before .before .before .before .before .before .before .before .before .before .before .begin in
+    let s = c .before .before .before .before .before .before .before .before .before .before .before .before .before .before .before .before .before in
+    let h = s .pre .1 in
     let size : length (begun .last .0) ≡ length (s .args .work .now) = begun .kept .0 in
-    let size′ : length (sought .last .0) ≡ length (begun .last .0) = sought .kept .0 in
-    fitting (take (s .args .count) (s .args .all)) (s .args .order .now) (s .args .work .now) (omega (arith, s .pre .1 .1, s .pre .1 .2)) (omega arith)
-    (sought .result) (named .result) (named .last .1 .1 .1 .1 .1 .1 .0) (sought .last .0) (cleared .last .0)
-    (sought .ensures .first ∙ shortest-is (s .args .count) (s .args .all) (s .args .labels .now) (s .args .n) (s .pre .1))
-    (named .ensures .0) (named .ensures .1) (omega arith) (sought .ensures .rest ∙ ap (drop 4096) (begun .ensures) ∙ rest-begun (s .args .work .now) (omega arith)) (cleared .ensures)
+    let found = ready (s .args .count) (s .args .all) (s .args .labels .now) (s .args .n) h (sought .result) (begun .last .0) (sought .last .0) (sought .ensures)
+    (s .args .work .now) (λ i. omega (arith, known .given i)) (sought .kept .0 ∙ size) (ap (drop 4096) (begun .ensures) ∙ rest-begun (s .args .work .now) (omega arith)) in
+    ended .ensures
+    ∙ finished-right (take (s .args .count) (s .args .all)) (omega (arith, h .1, h .2)) (sought .result) (s .args .work .now) (sought .last .0) found (omega arith) (s .args .order .now)
 
 pub arrange-labelled-spec : {M : Type 1} → statement M
 arrange-labelled-spec =
@@ -52,8 +54,7 @@ arrange-labelled-spec =
     (tie.spec
     begin-requires
     first-cycle-requires
-    name-all-requires
-    clear-requires
+    finish-labelled-requires
     same-length
     same-length-2
     returns)

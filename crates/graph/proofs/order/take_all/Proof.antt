@@ -1,17 +1,13 @@
 -- `graph::order::take_all` meets its contract.
-use Prim.Native.Nat.{ℕ, _<_, _^_}
+use Prim.Native.Nat.{ℕ}
 use native.Mathlib.Omega.{arith}
-use mathlib.Core.Path.{ap, _∙_, subst, fun-ext}
-use lib.ListN.{getD, replicate}
+use mathlib.Core.Path.{ap, _∙_, fun-ext}
+use lib.ListN.{replicate}
 use Rattle.trace.specs.Lists.{over}
 use Rattle.rows.proofs.Laws.{zeros-at}
-use Rattle.graph.specs.Engine.{held, countOrder}
-use Rattle.graph.specs.Edges.{edges}
+use Rattle.graph.specs.Engine.{held, above, countOrder}
 use Rattle.graph.specs.Serial.{threadOf}
-use Rattle.graph.proofs.Numbers.{bounded-edges}
-use Rattle.graph.proofs.Held.{held-below}
-use Rattle.graph.proofs.Arranging.{labels-below, threads-ordered}
-use Rattle.graph.proofs.Taken.{Given, order-is}
+use Rattle.graph.specs.Finished.{orderBy}
 use borrow.Author.Needs.{needs}
 use Rattle.graph.proofs.order.take_all.Statement.{statement}
 use Rattle.graph.proofs.order.take_all.Tie as tie
@@ -22,8 +18,7 @@ slice-aggregate-note-threads c = search needs
 note-threads-requires : tie.Need-note-threads-requires
 note-threads-requires c κs =
     let s = c .before .before .before .before in
-    let h = s .pre .1 .0 in
-    ((omega arith, omega arith, omega arith), (λ i k. omega (arith, labels-below (s .args .count) (s .args .all) (s .args .labels .now) (s .args .n) h i k, h .2), zeros-at 512))
+    ((omega arith, omega arith, omega arith), (s .pre .1, zeros-at 512))
 
 slice-aggregate-above-threads : tie.Need-slice-aggregate-above-threads
 slice-aggregate-above-threads c = search needs
@@ -41,30 +36,20 @@ same-length : tie.Need-same-length
 same-length c = search needs
 
 returns : tie.Need-returns
+unfolding orderBy
 returns c =
     let noted = c .before .before .before .before .before .before .before .before .note-threads in
-    let above = c .before .before .before .before .before .above-threads in
+    let found = c .before .before .before .before .before .above-threads in
     let known = c .before .before .before .before .before .before .before .before .before .before .before in
     let s = known .before .before in
     let n = s .args .n in
-    let m = above .result in
+    let m = found .result in
+    let thread : ℕ → ℕ = threadOf (held (s .args .count) (s .args .all) (s .args .labels .now)) in
     let work = s .args .work .now in
     let order = s .args .order .now in
-    let xs = held (s .args .count) (s .args .all) (s .args .labels .now) in
-    let h = s .pre .1 .0 in
-    let below : (i : ℕ) → i < s .args .count → getD (s .args .labels .now) i 0 < n = labels-below (s .args .count) (s .args .all) (s .args .labels .now) n h in
-    let given : Given n m (threadOf xs) (edges xs) work = record {
-      few = h .2;
-      threads = λ a k. subst (λ t. t < m) (noted .ensures a) (above .ensures .1 a k);
-      ordered = threads-ordered (s .args .count) (s .args .all) (s .args .labels .now) n h;
-      bounded = bounded-edges n xs (held-below n (s .args .count) (s .args .all) (s .args .labels .now) below);
-      acyclic = s .pre .1 .1 .1;
-      stands = s .pre .1 .1 .0;
-      small = λ i. omega (arith, known .shared-slice-known2 .given i);
-    } in
     c .before .before .take-ready .ensures
     ∙ ap (λ f. over (countOrder work f n m n (replicate 8 0)) order) (fun-ext (noted .ensures))
-    ∙ ap (λ o. over o order) (order-is n m (threadOf xs) (edges xs) work given)
+    ∙ ap (λ k. over (countOrder work thread n k n (replicate 8 0)) order) (found .ensures .1 ∙ ap (λ f. above f n) (fun-ext (noted .ensures)))
 
 pub take-all-spec : {M : Type 1} → statement M
 take-all-spec =
