@@ -10,5 +10,5 @@ pub mod Weaving
 pub mod Keeping
 pub mod Underway
 pub mod Proposing
-pub mod Counting
 pub mod Putting
+pub mod Examples

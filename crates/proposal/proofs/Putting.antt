@@ -14,9 +14,9 @@ use Rattle.graph.specs.declared.Numbered.the-variants.{Of, Full}
 use Rattle.graph.specs.Conflict.{joins}
 use Rattle.graph.specs.Transactions.{Tally, belongs, full, tallied, numbered, counted}
 use Rattle.thin.specs.Cells.{Cells, closing, Taken, takenAs, taken}
+use Rattle.checker.proofs.Looked.{counted-full, counted-of, counted-tallied}
 use Rattle.proposal.specs.Walk.{yieldOf}
 use Rattle.proposal.specs.Keeping.{Kept, needing, putIn, Stepping, stepAs, lastIn, stepping}
-use Rattle.proposal.proofs.Counting.{number-of, number-full}
 
 -- ---- whether an event needs a yield
 
@@ -63,19 +63,19 @@ module _ (k : Kept) (e : Event) where
       → takenAs cells rows ≡ taken (k .cells) (k .rows) (t .count) a e
       → (true ≡ not (full s e)) × (_≡_ {A = Kept} (record { cells = cells; rows = rows; tally = t }) (putIn k e))
   put-taken a t cells rows n c r =
-      let o = number-of s e a n in
-      let is : t ≡ tallied s e = c ∙ o .1 in (
-        sym (ap not (o .2)),
+      let o = counted-of s e a n in
+      let is : t ≡ tallied s e = c ∙ counted-tallied s e (o .0) in (
+        sym (ap not (o .0)),
         ap (λ (x : Taken). record { cells = x .cells; rows = x .rows; tally = t }) r
-            ∙ ap₂ (λ (u : Tally) (b : ℕ). with (u .count) b u) is (sym (o .0))
-            ∙ sym (put-open (o .2)),
+            ∙ ap₂ (λ (u : Tally) (b : ℕ). with (u .count) b u) is (sym (o .1))
+            ∙ sym (put-open (o .0)),
       )
 
   pub put-full : (t : Tally) → numbered s e ≡ Full → t ≡ counted s e
       → (false ≡ not (full s e)) × (_≡_ {A = Kept} (record { cells = k .cells; rows = k .rows; tally = t }) (putIn k e))
   unfolding counted
   put-full t n c =
-      let f : full s e ≡ true = number-full s e n in
+      let f : full s e ≡ true = counted-full s e n in
       let same : t ≡ s = c ∙ ap (λ b. cond b s (tallied s e)) f in
       (sym (ap not f), ap (λ (u : Tally). record { cells = k .cells; rows = k .rows; tally = u }) same ∙ sym (put-none f))
 
