@@ -23,7 +23,12 @@ fn print_first(word: &[u8], first: usize, second: usize) {
     print_two(first as u64, second as u64);
 }
 
-// A line for each of the first `size` yields: its thread, and the input record that it stands before.
+// A yield's line: its thread, and the input record that it stands before.
+fn print_line(thread: u16, record: u16) {
+    print_two(thread as u64, record as u64);
+}
+
+// The first `size` lines, of two numbers each.
 fn print_lines(lines: &[u16; 2048], size: usize) {
     let mut place = 0;
     while place < size {
@@ -31,7 +36,7 @@ fn print_lines(lines: &[u16; 2048], size: usize) {
             return;
         }
         let i = 2 * place;
-        print_two(lines[i] as u64, lines[i + 1] as u64);
+        print_line(lines[i], lines[i + 1]);
         place += 1;
     }
 }
@@ -53,11 +58,11 @@ fn save(name: &[u8], bytes: &[u8]) -> bool {
 }
 
 // Writes the finished recording to the file that the first argument names, where there is one. A last line says if that failed.
-fn save_named(out: &[u8; 8192], bytes: usize) {
+fn save_named(out: &[u8], bytes: usize) {
     if os::arg_count() < 2 {
         return;
     }
-    if 8192 < bytes {
+    if out.len() < bytes {
         return;
     }
     let mut name = [0u8; 4095];
