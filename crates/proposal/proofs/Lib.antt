@@ -6,6 +6,7 @@ pub mod Walks
 pub mod Bytes
 pub mod Dropped
 pub mod Right
+pub mod Answers
 pub mod Weaving
 pub mod Keeping
 pub mod Underway
