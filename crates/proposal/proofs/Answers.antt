@@ -2,7 +2,6 @@
 use Prim.Native.Nat.{ℕ}
 use native.Mathlib.Omega.{arith}
 use mathlib.Core.Path.{_≡_, ap, ap₂}
-use Rattle.checker.specs.declared.Refusal.{Refusal}
 use Rattle.proposal.specs.declared.Proposed.{Proposed}
 use Rattle.proposal.specs.declared.Proposed.the-variants.{Finished, Refused}
 use Rattle.proposal.specs.Proposed.{numbers}

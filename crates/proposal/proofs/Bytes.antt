@@ -1,28 +1,27 @@
 -- Events written as bytes and judged: a possible history within the limits is not refused, and the answer goes by its shortest prefix with a cycle.
 use Prim.Native.Nat.{ℕ, zero, suc, _+_, _*_, _/_, _%_, _≤_}
 use native.Mathlib.Omega.{arith}
-use mathlib.Core.Path.{_≡_, refl, sym, ap, ap₂, _∙_, subst}
-use mathlib.Core.Bool.{true, false, _&&_}
+use mathlib.Core.Path.{_≡_, refl, sym, ap, ap₂, _∙_}
+use mathlib.Core.Bool.{false, _&&_}
 use mathlib.Core.List.{List, [], _∷_, _++_, map, append-nil}
 use lib.ListN.{length, take, drop, length-append, length-drop, take-append-drop}
-use lib.Dec.{T, eqb, leb}
+use lib.Dec.{T, leb}
 use borrow.Author.Tests.{eq-eqb, le-leb, lt-leb}
 use Rattle.record.specs.declared.Event.{Event}
 use Rattle.record.specs.Faults.{firstFault, check}
 use Rattle.record.specs.Record as Record
 use Rattle.record.specs.Record.{event, encoded, inRange}
 use Rattle.record.proofs.Laws.{IsEvent, good-decoded, decoded-good, decode-encoded, encode-decoded, length-encoded}
-use Rattle.replay.specs.Machine.{fresh, faultOf, next, possible}
+use Rattle.replay.specs.Machine.{fresh, faultOf, possible}
 use Rattle.trace.specs.Lists.{each}
 use Rattle.trace.proofs.Tests.{by}
 use Rattle.trace.proofs.Lists.{Among, Every}
 use Rattle.graph.specs.Arranged.{workSize}
-use Rattle.graph.specs.Transactions.{Tally, none-yet, begins, full, tallied, tallyFrom, transactions}
+use Rattle.graph.specs.Transactions.{Tally, begins, full, tallied, tallyFrom, transactions}
 use Rattle.graph.specs.Violation.{shortest}
 use Rattle.graph.proofs.Numbers.{count-begun, tally-rises}
 use Rattle.checker.specs.Verdict.{cooperable}
 use Rattle.checker.specs.Refusals.{sizeChecks, records, recordsOf, Run, start, onwards, firstRefusal, refusal, events}
-use Rattle.checker.specs.Judged.{judged}
 use Rattle.checker.proofs.Refusing.{size-passed, refusal-on}
 use Rattle.checker.proofs.Looked.{no-fault}
 use Rattle.checker.proofs.Passed.{InForm}

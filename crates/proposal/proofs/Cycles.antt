@@ -1,10 +1,10 @@
 -- What one record more does to cycles: one that begins a transaction closes none, and neither does a yield in the middle of a transaction.
-use Prim.Native.Nat.{ℕ, zero, suc, pred, _<_, _≤_}
+use Prim.Native.Nat.{ℕ, zero, suc, pred, _≤_}
 use native.Mathlib.Omega.{arith}
 use mathlib.Core.Path.{_≡_, refl, sym, ap, _∙_, subst}
 use mathlib.Core.Logic.{_≢_, _⊎_, inl, inr}
 use mathlib.Core.Bool.{Bool, true, false, not, _&&_, _||_}
-use mathlib.Core.List.{List, [], _∷_, _++_, map}
+use mathlib.Core.List.{List, [], _∷_, _++_}
 use lib.Dec.{T, T-not, eqb, eqb→eq, eqb-refl}
 use borrow.Author.Tests.{eq-eqb}
 use Rattle.record.specs.declared.Event.{Event}

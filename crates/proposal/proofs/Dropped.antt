@@ -3,19 +3,19 @@ use Prim.Native.Nat.{ℕ, zero, suc, _≤_, _<_}
 use native.Mathlib.Omega.{arith}
 use mathlib.Core.Path.{_≡_, refl, sym, ap, _∙_, subst}
 use mathlib.Core.Logic.{_≢_}
-use mathlib.Core.Bool.{Bool, true, false, cond, _||_}
+use mathlib.Core.Bool.{true, false, cond, _||_}
 use mathlib.Core.List.{List, [], _∷_, _++_, append-assoc, append-nil}
 use lib.ListN.{length, getD, set, length-set}
-use lib.Seq.{getD-set-same, append-snoc}
+use lib.Seq.{getD-set-same}
 use lib.Dec.{T, eqb}
-use borrow.Author.Tests.{eq-eqb, eqb-true, eqb-false}
+use borrow.Author.Tests.{eqb-true, eqb-false}
 use Rattle.record.specs.declared.Event.{Event}
 use Rattle.trace.proofs.Tests.{by, by-same}
 use Rattle.trace.proofs.Lists.{map-append}
 use Rattle.graph.specs.Conflict.{joins}
 use Rattle.graph.specs.Transactions.{Tally, none-yet, currentOf, begins, belongs, ends, tallied, tallyFrom, transactions}
 use Rattle.graph.proofs.Numbers.{count-begun, count-unbegun, count-rises, current-other}
-use Rattle.proposal.specs.Walk.{Placed, given, yieldOf, yieldFor, eventsIn, needsYield, placed, grown, walked}
+use Rattle.proposal.specs.Walk.{Placed, given, yieldOf, yieldFor, eventsIn, needsYield, grown, walked}
 use Rattle.proposal.proofs.Appending.{tally-append}
 use Rattle.proposal.proofs.Idle.{current-ended, yield-last}
 use Rattle.proposal.proofs.Cycles.{tally}

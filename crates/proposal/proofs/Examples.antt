@@ -1,11 +1,11 @@
 -- Proposed yields, as one table, proved of the definitions by computing them: P3, P6, P7, P8 and P9 of document 01 and others; and the whole promise for P3.
 use Prim.Native.Nat.{ℕ}
 use mathlib.Core.Path.{_≡_, refl}
-use mathlib.Core.List.{List, [], _∷_, _++_, map}
-use lib.ListN.{length, replicate}
+use mathlib.Core.List.{List, [], _∷_, _++_}
+use lib.ListN.{replicate}
 use Rattle.record.specs.declared.Event.{Event}
 use Rattle.record.specs.declared.Op.{Op}
-use Rattle.record.specs.declared.Op.the-variants.{Read, Write, Acquire, Release, Prewait, Postwait, Notify, Fork, Join, Yield}
+use Rattle.record.specs.declared.Op.the-variants.{Read, Write, Acquire, Release, Fork, Join, Yield}
 use Rattle.record.specs.Faults as Faults
 use Rattle.record.specs.Record as Record
 use Rattle.replay.specs.Machine as Machine

@@ -1,9 +1,8 @@
 -- Where a yield is possible: a thread in the middle of a transaction waits on nothing.
 use Prim.Native.Nat.{ℕ, zero, suc}
-use native.Mathlib.Omega.{arith}
 use mathlib.Core.Path.{_≡_, refl, sym, ap, _∙_, subst}
 use mathlib.Core.Logic.{_≢_}
-use mathlib.Core.Bool.{Bool, true, false, cond, _||_}
+use mathlib.Core.Bool.{true, false, cond, _||_}
 use mathlib.Core.List.{List, [], _∷_}
 use lib.ListN.{getD, set, replicate}
 use lib.Seq.{getD-set-other}
@@ -13,15 +12,14 @@ use Rattle.record.specs.declared.Event.{Event}
 use Rattle.record.specs.declared.Op.{Op}
 use Rattle.record.specs.declared.Op.the-variants.{Read, Write, Acquire, Release, Prewait, Postwait, Notify, Fork, Join, Yield}
 use Rattle.record.specs.Faults.{firstFault, check}
-use Rattle.record.specs.Record.{kind, target}
-use Rattle.record.proofs.Laws.{first-passed}
+use Rattle.record.specs.Record.{kind}
 use Rattle.replay.specs.declared.State.{State}
 use Rattle.replay.specs.Machine.{fresh, forked, waitless, waitsOn, lifeOf, waitOf, waitBefore, finds, checks, faultOf, act, next, after, possible}
 use Rattle.trace.proofs.Tests.{by, by-same, T-of}
 use Rattle.graph.specs.Transactions.{Tally, none-yet, currentOf, begins, belongs, ends, tallied, tallyFrom}
 use Rattle.graph.proofs.Numbers.{current-other, open-of}
 use Rattle.proposal.specs.Walk.{yieldOf}
-use Rattle.proposal.proofs.Orders.{Found, found, first-fine}
+use Rattle.proposal.proofs.Orders.{found, first-fine}
 
 pub set-zero : (l : List ℕ) (i : ℕ) → getD (set l i 0) i 0 ≡ 0
 set-zero [] i = refl

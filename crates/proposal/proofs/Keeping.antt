@@ -1,18 +1,18 @@
 -- What is kept represents the recording built so far: the second engine's answers are those of the definitions, and a step of the walk keeps it so.
-use Prim.Native.Nat.{ℕ, zero, suc, pred, _+_, _≤_, _<_}
+use Prim.Native.Nat.{ℕ, pred, _+_, _≤_, _<_}
 use native.Mathlib.Omega.{arith}
 use mathlib.Core.Path.{_≡_, refl, sym, ap, ap₂, _∙_, subst}
-use mathlib.Core.Bool.{Bool, true, false, not, cond, _&&_, _||_}
-use mathlib.Core.List.{List, [], _∷_, _++_, map}
-use lib.ListN.{length, getD, drop, replicate, length-append}
+use mathlib.Core.Bool.{Bool, true, false, cond, _&&_, _||_}
+use mathlib.Core.List.{List, [], _∷_, _++_}
+use lib.ListN.{length, getD, drop, length-append}
 use lib.Seq.{append-snoc}
 use lib.Dec.{T, eqb, leb, ltb}
-use borrow.Author.Tests.{le-leb, lt-leb, lt-ltb, le-ltb, ltb-true, ltb-false, leb-true, leb-false}
+use borrow.Author.Tests.{le-leb, lt-leb, ltb-true, ltb-false, leb-true, leb-false}
 use Rattle.record.specs.declared.Event.{Event}
 use Rattle.record.specs.Faults.{firstFault, check}
 use Rattle.trace.specs.Paths.{cyclic}
 use Rattle.trace.proofs.Tests.{by}
-use Rattle.trace.proofs.Lists.{Among, Before, map-append}
+use Rattle.trace.proofs.Lists.{map-append}
 use Rattle.rows.specs.Bits.{begun}
 use Rattle.graph.specs.Conflict.{joins}
 use Rattle.graph.specs.Transactions.{Tally, none-yet, currentOf, begins, belongs, full, tallied, tallyFrom, Labelled, labelledFrom, labelled, transactions, transactionLimit}
@@ -21,7 +21,7 @@ use Rattle.graph.specs.Engine.{labelledAs}
 use Rattle.graph.proofs.Labels.{ev, labelled-events}
 use Rattle.graph.proofs.Numbers.{sane-none, belongs-open, belongs-lt, count-begun, count-unbegun, count-rises}
 use Rattle.graph.proofs.Steps.{among-first, before-first}
-use Rattle.thin.specs.Cells.{Cells, idle, closing, Taken, taken}
+use Rattle.thin.specs.Cells.{idle, closing, Taken, taken}
 use Rattle.thin.proofs.Meet.{Orderly}
 use Rattle.thin.proofs.Agree as Agree
 use Rattle.thin.proofs.Right.{Holds, begun-holds, closing-right, Looks, looks-all, taken-right, taken-rest}
@@ -29,7 +29,7 @@ use Rattle.proposal.specs.Walk.{yieldOf, needsYield, placed, grown, reco
 use Rattle.proposal.specs.Weaving.{placedAs}
 use Rattle.proposal.specs.Keeping.{Kept, needing, putIn, Stepping, stepAs, lastIn, stepping}
 use Rattle.proposal.proofs.Appending.{tally-append, sane-from}
-use Rattle.proposal.proofs.Cycles.{tally, labelled-more, begins-none, needs-open, yield-open, yield-none, after-begins, after-none}
+use Rattle.proposal.proofs.Cycles.{tally, labelled-more, begins-none, needs-open, yield-open, yield-none, after-none}
 use Rattle.proposal.proofs.Walks.{Fine, inside, ahead, orderly-next, orderly-yield, placed-yield, placed-alone, grown-yield, grown-alone}
 use Rattle.proposal.proofs.Bytes.{few-open}
 use Rattle.proposal.proofs.Weaving.{placed-unmarked, placed-marked}

@@ -1,9 +1,9 @@
 -- Laws of the whole promise, as the code comes to it: refused before the walk, refused in it, or finished.
-use Prim.Native.Nat.{ℕ, zero, suc, _*_, _/_, _≤_}
+use Prim.Native.Nat.{ℕ, zero, suc, _/_, _≤_}
 use native.Mathlib.Omega.{arith}
 use mathlib.Core.Path.{_≡_, refl, sym, ap, ap₂, _∙_, subst}
 use mathlib.Core.Logic.{_≢_}
-use mathlib.Core.Bool.{Bool, true, false, _&&_}
+use mathlib.Core.Bool.{Bool}
 use mathlib.Core.List.{List, [], _∷_, _++_}
 use lib.ListN.{length, take, drop, replicate, length-replicate}
 use lib.Dec.{T}
@@ -19,19 +19,19 @@ use Rattle.rows.proofs.Laws.{cleared-is}
 use Rattle.graph.specs.Arranged.{workSize}
 use Rattle.checker.specs.declared.Refusal.{Refusal}
 use Rattle.checker.specs.Verdict.{Numbers}
-use Rattle.checker.specs.Examined.{inputChecks, inputRefusal, Examination, examined, asFault}
-use Rattle.checker.specs.Refusals.{Fault, start, firstRefusal, recordsOf, events}
+use Rattle.checker.specs.Examined.{inputChecks, Examination, examined, asFault}
+use Rattle.checker.specs.Refusals.{Fault, events}
 use Rattle.checker.proofs.Passed.{passed}
 use Rattle.checker.proofs.Demand3.{ranged}
 use Rattle.checker.proofs.Finding.{input-sized, input-passed, Found, found, found-refused}
 use Rattle.proposal.specs.declared.Proposed.{Proposed}
 use Rattle.proposal.specs.declared.Proposed.the-variants.{Finished, Refused}
 use Rattle.proposal.specs.Walk.{eventsIn, finished, stop}
-use Rattle.proposal.specs.Proposed.{numbers, sizeChecks, refusal, bytesOf, yieldsIn, Ending, done, refused, proposed, linesFrom, told}
+use Rattle.proposal.specs.Proposed.{numbers, sizeChecks, refusal, yieldsIn, Ending, done, refused, proposed, linesFrom, told}
 use Rattle.proposal.specs.Weaving.{woven, bytesIn}
 use Rattle.proposal.specs.Keeping.{Walked}
 use Rattle.proposal.proofs.Bytes.{bytes-size}
-use Rattle.proposal.proofs.Right.{Sizes, sizes, sizes-checker, sizes-refused, sizes-passed, refusal-checker, refused-before, refused-walking, proposed-done, limits}
+use Rattle.proposal.proofs.Right.{sizes, sizes-checker, sizes-refused, sizes-passed, refusal-checker, refused-before, refused-walking, proposed-done, limits}
 
 -- a test that each of a list passes
 all-of : {A : Type 0} (p : A → Bool) (l : List A) → ((x : A) → Among x l → T (p x)) → T (allOf p l)

@@ -1,10 +1,10 @@
 -- Proposed yields are what document 02 says: the finished recording is cooperable, it is the input once the added yields are taken out, and each of them is
 -- needed. Of every input, output and work area that aren't refused.
-use Prim.Native.Nat.{ℕ, zero, suc, _*_, _/_, _%_, _≤_, _<_}
+use Prim.Native.Nat.{ℕ, zero, suc, _/_, _%_, _≤_}
 use native.Mathlib.Omega.{arith}
 use mathlib.Core.Path.{_≡_, refl, sym, ap, _∙_, subst}
-use mathlib.Core.Bool.{Bool, true, false}
-use mathlib.Core.List.{List, [], _∷_, _++_, map, append-nil}
+use mathlib.Core.Bool.{true, false}
+use mathlib.Core.List.{List, [], _∷_, _++_, append-nil}
 use lib.ListN.{length, take, drop, replicate, length-append, length-map}
 use lib.Seq.{take-length, take-append-seam}
 use lib.Dec.{T, eqb, leb}
@@ -17,7 +17,6 @@ use Rattle.replay.specs.Machine.{fresh, possible}
 use Rattle.replay.specs.Machine.{after as state-after}
 use Rattle.trace.specs.Lists.{someOf, from, over}
 use Rattle.trace.specs.Paths.{cyclic}
-use Rattle.trace.proofs.Tests.{T-is}
 use Rattle.trace.proofs.Lists.{Among, first-default, first-is, from-bound, map-append}
 use Rattle.graph.specs.Arranged.{workSize}
 use Rattle.graph.specs.Transactions.{none-yet, labelledFrom, labelled, tallyFrom, transactions}
@@ -26,12 +25,12 @@ use Rattle.graph.specs.Violation.{edgesUpTo, cyclicUpTo, shortest}
 use Rattle.graph.proofs.Meaning.{cycle-stays}
 use Rattle.checker.specs.Examined.{inputChecks}
 use Rattle.checker.specs.Refusals as Checker
-use Rattle.checker.specs.Refusals.{records, recordsOf, start, firstRefusal, events}
+use Rattle.checker.specs.Refusals.{recordsOf, start, firstRefusal, events}
 use Rattle.checker.proofs.Refusing.{Sized, sized, size-passed}
 use Rattle.checker.proofs.Refusing.{sizes-passed as checker-passed}
 use Rattle.checker.proofs.Passed.{passed, records-sized}
 use Rattle.checker.proofs.Demand3.{ranged}
-use Rattle.proposal.specs.Walk.{Placed, given, yieldOf, yieldFor, eventsIn, needsYield, walked, finished, stop}
+use Rattle.proposal.specs.Walk.{Placed, yieldOf, yieldFor, eventsIn, needsYield, finished, stop}
 use Rattle.proposal.specs.Proposed.{sizeChecks, refusal, bytesOf, done, refused, proposed}
 use Rattle.proposal.specs.Meaning.{Judges, Right}
 use Rattle.proposal.proofs.Appending.{possible-parts, possible-both}

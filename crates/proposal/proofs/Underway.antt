@@ -16,12 +16,10 @@ use Rattle.trace.specs.Lists.{allOf, someOf}
 use Rattle.trace.specs.Paths.{cyclic}
 use Rattle.trace.proofs.Tests.{by-same, and-left}
 use Rattle.trace.proofs.Lists.{Among, map-append, all-has}
-use Rattle.graph.specs.Transactions.{labelledFrom, labelled}
+use Rattle.graph.specs.Transactions.{labelledFrom}
 use Rattle.graph.specs.Edges.{edges}
 use Rattle.graph.specs.Engine.{pastEnd}
 use Rattle.checker.specs.declared.Refusal.{Refusal}
-use Rattle.checker.specs.Examined.{asFault}
-use Rattle.checker.specs.Refusals.{Fault}
 use Rattle.proposal.specs.Walk.{Placed, eventsIn, placed, grown, walked, finished, roomChecks, stop}
 use Rattle.proposal.specs.Weaving.{placedAs, woven}
 use Rattle.proposal.specs.Keeping.{Kept, Stepping, stepping, Walked}

@@ -6,11 +6,9 @@ use mathlib.Core.Path.{_≡_, refl, sym, ap, ap₂, _∙_, subst}
 use mathlib.Core.Bool.{Bool, true, false, not, cond}
 use mathlib.Core.List.{List, [], _∷_, _++_, append-nil}
 use lib.ListN.{length, getD, length-append}
-use lib.Dec.{eqb}
 use borrow.Author.Tests.{eq-eqb, ne-eqb}
 use Rattle.record.specs.declared.Event.{Event}
 use Rattle.record.specs.Record.{encoded}
-use Rattle.record.proofs.Laws.{length-encoded}
 use Rattle.trace.specs.Lists.{keep, each, over}
 use Rattle.trace.proofs.Tests.{by, by-same}
 use Rattle.trace.proofs.Lists.{map-append, each-append, keep-true, keep-false}

@@ -1,16 +1,15 @@
 -- What the private functions of the walk promise one another: what is kept of the recording built so far, and what putting a record after it changes.
 -- A reader of the public promise need not read this.
-use Prim.Native.Nat.{ℕ, zero, suc, pred, _≤_}
+use Prim.Native.Nat.{ℕ, pred}
 use mathlib.Core.Path.{_≡_}
-use mathlib.Core.Bool.{Bool, true, false, cond, _||_}
+use mathlib.Core.Bool.{Bool, false, cond, _||_}
 use mathlib.Core.List.{List, []}
-use lib.ListN.{getD, take, drop, replicate}
-use lib.Dec.{T, eqb, ltb}
+use lib.ListN.{getD, take, drop}
+use lib.Dec.{eqb, ltb}
 use Rattle.record.specs.declared.Event.{Event}
-use Rattle.trace.specs.Lists.{over}
 use Rattle.graph.specs.Conflict.{joins}
 use Rattle.graph.specs.Transactions.{Tally, tallyOf, belongs, full, tallied}
-use Rattle.thin.specs.Cells.{Cells, cellsOf, closing, Taken, taken}
+use Rattle.thin.specs.Cells.{Cells, closing, Taken, taken}
 use Rattle.checker.specs.declared.Refusal.{Refusal}
 use Rattle.checker.specs.Examined.{asFault}
 use Rattle.proposal.specs.Walk.{yieldOf, finished, stop}

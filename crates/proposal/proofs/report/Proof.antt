@@ -1,6 +1,5 @@
 -- `proposal::report` meets its contract: the sizes, then all records, then the walk, then what is written.
-use Prim.Native.Nat.{ℕ, _/_, _≤_}
-use native.Mathlib.Omega.{arith}
+use Prim.Native.Nat.{ℕ}
 use mathlib.Core.Path.{_≡_, refl, sym, _∙_}
 use mathlib.Core.List.{List}
 use lib.ListN.{length}

@@ -1,6 +1,5 @@
 -- `proposal::walking::needs_yield` meets its contract: a join and a thread's first begin a transaction; any other is asked of the cells and rows.
-use native.Mathlib.Omega.{arith}
-use mathlib.Core.Path.{_≡_, sym, _∙_}
+use mathlib.Core.Path.{sym, _∙_}
 use Rattle.proposal.proofs.Putting.{needing-join, needing-first, needing-open}
 use borrow.Author.Needs.{needs}
 use Rattle.proposal.proofs.walking.needs_yield.Statement.{statement}

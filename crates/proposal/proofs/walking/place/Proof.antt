@@ -1,5 +1,5 @@
 -- `proposal::walking::place` meets its contract: with a yield or without, each with room or without.
-use mathlib.Core.Path.{_≡_, sym, _∙_}
+use mathlib.Core.Path.{sym, _∙_}
 use Rattle.proposal.proofs.Putting.{step-short, step-yield, step-short-alone, step-alone}
 use borrow.Author.Needs.{needs}
 use Rattle.proposal.proofs.walking.place.Statement.{statement}

@@ -1,5 +1,5 @@
 -- `proposal::walking::put` meets its contract: counted and taken in, or full.
-use mathlib.Core.Path.{_≡_, sym, _∙_}
+use mathlib.Core.Path.{sym, _∙_}
 use Rattle.proposal.proofs.Putting.{put-taken, put-full}
 use borrow.Author.Needs.{needs}
 use Rattle.proposal.proofs.walking.put.Statement.{statement}

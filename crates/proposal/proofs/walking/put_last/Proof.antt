@@ -1,5 +1,4 @@
 -- `proposal::walking::put_last` meets its contract: the event is put, or there is no room for its transaction.
-use mathlib.Core.Path.{_≡_}
 use Rattle.proposal.proofs.Putting.{last-put, last-full}
 use borrow.Author.Needs.{needs}
 use Rattle.proposal.proofs.walking.put_last.Statement.{statement}

@@ -1,14 +1,13 @@
 -- `proposal::walking::walk` meets its contract: a step for each event.
-use Prim.Native.Nat.{ℕ, suc, _+_, _*_, _-_, _≤_, _<_}
+use Prim.Native.Nat.{ℕ, _+_, _*_, _-_, _≤_, _<_}
 use native.Mathlib.Omega.{arith}
 use native.Mathlib.Numerals.{add-one}
 use mathlib.Core.Path.{_≡_, refl, sym, ap, _∙_, subst}
 use mathlib.Core.List.{List}
-use lib.ListN.{length, getD, set, drop, length-set}
+use lib.ListN.{length, set, drop, length-set}
 use borrow.Author.Needs.{needs}
 use Rattle.rows.proofs.Laws.{length-begun, rest-begun}
 use Rattle.graph.specs.Transactions.{none-yet}
-use Rattle.graph.specs.Engine.{pastEnd}
 use Rattle.thin.specs.Cells.{cellsOf, idle}
 use Rattle.proposal.specs.Keeping.{Kept, keptOf, Stepping, stepAs}
 use Rattle.proposal.proofs.Keeping.{represents-none}

@@ -1,10 +1,9 @@
 -- `proposal::writing::write_placed` meets its contract: the event alone, or after a yield.
 use Prim.Native.Nat.{ℕ, _+_, _≤_}
 use native.Mathlib.Omega.{arith}
-use mathlib.Core.Path.{_≡_, refl, sym, ap, ap₂, _∙_}
+use mathlib.Core.Path.{_≡_, sym, ap, ap₂, _∙_}
 use mathlib.Core.List.{List, _++_}
 use lib.ListN.{length, length-append}
-use Rattle.record.specs.declared.Event.{Event}
 use Rattle.record.specs.Record.{encoded}
 use Rattle.record.proofs.Laws.{length-encoded}
 use Rattle.checker.specs.Writing.{writtenAt}

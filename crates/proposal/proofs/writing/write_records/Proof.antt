@@ -1,12 +1,10 @@
 -- `proposal::writing::write_records` meets its contract: one event after the other.
-use Prim.Native.Nat.{ℕ, suc, _+_, _-_, _≤_, _<_}
+use Prim.Native.Nat.{_-_, _≤_}
 use native.Mathlib.Omega.{arith}
 use native.Mathlib.Numerals.{add-one}
-use mathlib.Core.Path.{_≡_, refl, sym, ap, _∙_, subst}
-use mathlib.Core.List.{List}
-use lib.ListN.{length, getD}
+use mathlib.Core.Path.{_≡_, sym, ap, _∙_, subst}
+use lib.ListN.{length}
 use Rattle.trace.specs.Lists.{over}
-use Rattle.graph.specs.Engine.{pastEnd}
 use Rattle.proposal.specs.Weaving.{woven, bytesIn}
 use Rattle.proposal.proofs.Weaving.{Written, written-none, written-room, written-next}
 use Rattle.proposal.proofs.writing.write_records.Statement.{statement}
