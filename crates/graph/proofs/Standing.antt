@@ -4,9 +4,9 @@ use native.Mathlib.Omega.{arith}
 use mathlib.Core.Path.{_≡_, refl, sym, ap, ap₂, _∙_, subst}
 use mathlib.Core.Bool.{Bool, true, false, cond, not, _&&_, _||_, or-assoc, or-false}
 use mathlib.Core.List.{List, [], _∷_, _++_}
-use borrow.Author.Tests.{ltb-true, ltb-false, lt-ltb, le-ltb, eq-eqb, ne-eqb}
+use borrow.Author.Tests.{ltb-true, ltb-false, eq-eqb, ne-eqb}
 use lib.ListN.{length, drop}
-use lib.Dec.{T, eqb, ltb}
+use lib.Dec.{T, ltb}
 use Rattle.trace.specs.Lists.{someOf}
 use Rattle.trace.specs.Paths.{Edge, reaches, cyclic}
 use Rattle.trace.proofs.Tests.{by, by-same, or-and-self}

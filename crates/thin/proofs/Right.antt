@@ -1,0 +1,174 @@
+-- The second engine is right (document 02, L7): what cells and rows hold of the records so far, and that `closing` and `taken` answer and keep it by
+-- document 01's own edges. The records are labelled in any way; their events are orderly.
+--   begun-holds    nothing has been done
+--   closing-right  whether one record more closes a cycle
+--   taken-right    one record more that closes none is taken in
+--   taken-stands   one record more is taken in, cycle or not: the rows stand for the edges with it
+--   taken-row      so row t says who has a path to the record's transaction t
+--   taken-rest     and the numbers past the square stay
+use Prim.Native.Nat.{ℕ, _<_, _≤_}
+use native.Mathlib.Omega.{arith}
+use mathlib.Core.Path.{_≡_, refl, sym, ap, ap₂, _∙_, subst}
+use mathlib.Core.Logic.{_≢_}
+use mathlib.Core.Bool.{true, false, cond, _&&_, _||_}
+use mathlib.Core.List.{List, [], _∷_, _++_}
+use borrow.Author.Tests.{lt-ltb}
+use lib.Dec.{T, eqb, eqb-refl}
+use lib.ListN.{length, drop}
+use Rattle.record.specs.declared.Event.{Event}
+use Rattle.trace.specs.Lists.{someOf}
+use Rattle.trace.specs.Paths.{hasEdge, Path, reaches, cyclic}
+use Rattle.trace.proofs.Tests.{or-right, and-both}
+use Rattle.trace.proofs.Lists.{Among, first-of, some-same, some-has, map-append}
+use Rattle.trace.proofs.Reach.{Last, last-edge, sound, edge-below}
+use Rattle.trace.proofs.Closing.{reaches-goal, reaches-beyond, cyclic-goal}
+use Rattle.rows.specs.Bits.{has, begun}
+use Rattle.graph.specs.Transactions.{Labelled, transactionLimit}
+use Rattle.graph.specs.Edges.{edges}
+use Rattle.graph.specs.Engine.{Stands}
+use Rattle.graph.proofs.Ends.{has-pair}
+use Rattle.graph.proofs.Numbers.{bounded-edges}
+use Rattle.graph.proofs.Standing.{begun-stands}
+use Rattle.graph.proofs.Steps.{among-none, among-first, among-split, before-first}
+use Rattle.thin.specs.Cells.{Cells, idle, sources, stored, closing, closedRows, takenAs, taken}
+use Rattle.thin.specs.Thin.{sourcesOf, cellsFrom, cellsAfter, thin}
+use Rattle.thin.proofs.Meet.{Orderly}
+use Rattle.thin.proofs.Agree.{eventsIn, edges-agree, paths-agree, cycles-agree, thin-snoc, cells-snoc}
+use Rattle.thin.proofs.Gathering.{closed-stands, closed-kept}
+
+-- Cells and rows hold the records xs: the cells are those after them, the rows stand for their edges, their transactions are among the first n
+pub record Holds (xs : List Labelled) (s : Cells) (work : List ℕ) (n : ℕ) : Type 0 where
+  pub cells : s ≡ cellsAfter xs
+  pub stands : Stands work (edges xs)
+  pub few : (y : Labelled) → Among y xs → y .transaction < n
+  pub most : n ≤ 512
+  pub none : cyclic (edges xs) ≡ false
+
+-- Nothing has been done
+pub begun-holds : (work : List ℕ) → 4096 ≤ length work → Holds [] idle (begun work) 0
+unfolding cellsFrom edges cyclic someOf
+begun-holds work long = record {
+  cells = refl;
+  stands = begun-stands work long;
+  few = λ y m. absurd (among-none m);
+  most = omega arith;
+  none = refl;
+}
+
+-- of orderly events, all but the last
+orderly-first : (es : List Event) (e : Event) → Orderly (es ++ (e ∷ [])) → Orderly es
+orderly-first es e ok = record {
+  ranges = λ x m. ok .ranges x (among-first es (e ∷ []) m);
+  pairs = λ x y o. ok .pairs x y (before-first es (e ∷ []) o);
+}
+
+module _ (xs : List Labelled) (x : Labelled) (ok : Orderly (eventsIn (xs ++ (x ∷ [])))) where
+  abbrev t : ℕ
+  t = x .transaction
+
+  abbrev all : List Labelled
+  all = xs ++ (x ∷ [])
+
+  abbrev bs : List ℕ
+  bs = sourcesOf (cellsAfter xs) x
+
+  before : Orderly (eventsIn xs)
+  before = orderly-first (eventsIn xs) (x .event) (subst (λ l. Orderly l) (map-append (λ y. y .event) xs (x ∷ [])) ok)
+
+  -- a source has an edge to t: by the engine's edges, and so by 01's
+  source-edge : (b : ℕ) → Among b bs → T (hasEdge (edges all) b t)
+  source-edge b m = edges-agree all ok b t (subst T (sym (thin-snoc idle xs x b t))
+      (or-right (hasEdge (thin xs) b t) (eqb t t && someOf (λ c. eqb c b && true) bs)
+      (and-both (eqb t t) (someOf (λ c. eqb c b && true) bs) (eqb-refl t) (some-has (λ c. eqb c b && true) b bs m (and-both (eqb b b) true (eqb-refl b) tt)))))
+
+  -- who then reaches t, and who anyone; and whether there is then a cycle
+  goal : (a : ℕ) → reaches (edges all) a t ≡ (reaches (edges xs) a t || someOf (λ b. reaches (edges xs) a b) bs)
+  goal a =
+      sym (paths-agree all ok a t)
+      ∙ reaches-goal (thin xs) (thin all) t bs (λ b. b) (λ b. true) (thin-snoc idle xs x) a
+      ∙ ap₂ (λ p q. p || q) (paths-agree xs before a t) (some-same (λ b. reaches (thin xs) a b) (λ b. reaches (edges xs) a b) bs (λ b m. paths-agree xs before a b))
+
+  beyond : (a d : ℕ) → reaches (edges all) a d ≡ (reaches (edges xs) a d || (reaches (edges xs) t d && reaches (edges all) a t))
+  beyond a d =
+      sym (paths-agree all ok a d)
+      ∙ reaches-beyond (thin xs) (thin all) t bs (λ b. b) (λ b. true) (thin-snoc idle xs x) a d
+      ∙ ap₂ (λ p q. p || q) (paths-agree xs before a d) (ap₂ (λ p q. p && q) (paths-agree xs before t d) (paths-agree all ok a t))
+
+  cycle : cyclic (edges xs) ≡ false → cyclic (edges all) ≡ someOf (λ b. reaches (edges xs) t b) bs
+  cycle none =
+      sym (cycles-agree all ok)
+      ∙ cyclic-goal (thin xs) (thin all) t bs (λ b. b) (λ b. true) (thin-snoc idle xs x) (cycles-agree xs before ∙ none)
+      ∙ some-same (λ b. reaches (thin xs) t b) (λ b. reaches (edges xs) t b) bs (λ b m. paths-agree xs before t b)
+
+  module _ (s : Cells) (work : List ℕ) (m : ℕ) (holds : Holds xs s work m) (in-t : t < 512) where
+    all-few : (y : Labelled) → Among y all → y .transaction < 512
+    all-few y a = among-split xs x a (λ i. omega (arith, holds .few y i, holds .most)) (λ e. subst (λ z. z .transaction < 512) (sym e) in-t)
+
+    source-small : (b : ℕ) → Among b bs → b < 512
+    source-small b i = let e = has-pair all b t (source-edge b i) in subst (λ k. k < 512) (e .x-of) (all-few (e .x) (first-of (e .order)))
+
+    source-other : (b : ℕ) → Among b bs → b ≢ t
+    source-other b i = has-pair all b t (source-edge b i) .different
+
+    -- Whether the record closes a cycle
+    pub closing-right : closing s work t (x .event) ≡ cyclic (edges all)
+    unfolding closing
+    closing-right =
+        ap (λ c. someOf (λ b. has work b t) (sources c t (x .event))) (holds .cells)
+        ∙ some-same (λ b. has work b t) (λ b. reaches (edges xs) t b) bs (λ b i. holds .stands .is t b in-t (source-small b i))
+        ∙ sym (cycle (holds .none))
+
+    -- The rows to look at: all that t reaches, besides its own, are among the first n
+    abbrev pub Looks : ℕ → Type 0
+    Looks n = (d : ℕ) → d < 512 → n ≤ d → T (reaches (edges xs) t d) → d ≡ t
+
+    -- enough are the rows of all transactions so far
+    pub looks-all : (n : ℕ) → m ≤ n → Looks n
+    looks-all n h d hd le u = go (sound (edges xs) t d u) le
+      where
+        go : {a b : ℕ} → Path (edges xs) a b → n ≤ b → b ≡ a
+        go Path.here l = refl
+        go {a} {b} (Path.there {b = c} e p) l =
+            let f : Last (edges xs) a b = last-edge (record { mid = c; edge = e; path = p }) in
+            absurd (omega (arith, edge-below m (edges xs) (bounded-edges m xs (holds .few)) (f .mid) b (f .edge) .1))
+
+    -- and none, where the record begins its transaction
+    pub looks-first : (n : ℕ) → ((y : Labelled) → Among y xs → y .transaction ≢ t) → Looks n
+    looks-first n new d hd le u = go (sound (edges xs) t d u) refl
+      where
+        go : {a b : ℕ} → Path (edges xs) a b → a ≡ t → b ≡ t
+        go Path.here q = q
+        go {a} (Path.there {b = c} e p) q = let f = has-pair xs a c e in absurd (new (f .x) (first-of (f .order)) (f .x-of ∙ q))
+
+    module _ (n : ℕ) (in-n : n ≤ 512) (looks : Looks n) where
+      taken-is : taken s work n t (x .event) ≡ takenAs (stored s t (x .event)) (closedRows work n t (sources s t (x .event)))
+      unfolding taken
+      taken-is = ap (λ b. cond b (takenAs (stored s t (x .event)) (closedRows work n t (sources s t (x .event)))) (takenAs s work)) (lt-ltb t transactionLimit in-t)
+
+      rows-are : taken s work n t (x .event) .rows ≡ closedRows work n t bs
+      rows-are = ap (λ r. r .rows) taken-is ∙ ap (λ c. closedRows work n t (sources c t (x .event))) (holds .cells)
+
+      -- The rows stand for the edges with the record, cycle or not
+      pub taken-stands : Stands (taken s work n t (x .event) .rows) (edges all)
+      taken-stands = subst (λ w. Stands w (edges all)) (sym rows-are)
+          (closed-stands work (edges xs) (edges all) (holds .stands) t n in-t in-n bs source-small source-other goal beyond looks)
+
+      -- so row t says who has a path to t
+      pub taken-row : (b : ℕ) → b < 512 → has (taken s work n t (x .event) .rows) t b ≡ reaches (edges all) b t
+      taken-row b hb = taken-stands .is b t hb in-t
+
+      -- the numbers past the square stay
+      pub taken-rest : drop 4096 (taken s work n t (x .event) .rows) ≡ drop 4096 work
+      taken-rest = ap (drop 4096) rows-are
+          ∙ closed-kept work (edges xs) (edges all) (holds .stands) t n in-t in-n bs source-small source-other goal beyond looks .rest
+
+      -- A record that closes no cycle is taken in
+      pub taken-right : (k : ℕ) → m ≤ k → t < k → k ≤ 512 → cyclic (edges all) ≡ false
+          → Holds all (taken s work n t (x .event) .cells) (taken s work n t (x .event) .rows) k
+      taken-right k h in-k most none = record {
+        cells = ap (λ r. r .cells) taken-is ∙ ap (λ c. stored c t (x .event)) (holds .cells) ∙ sym (cells-snoc idle xs x);
+        stands = taken-stands;
+        few = λ y i. among-split xs x i (λ j. omega (arith, holds .few y j)) (λ e. subst (λ z. z .transaction < k) (sym e) in-k);
+        most = most;
+        none = none;
+      }
