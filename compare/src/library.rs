@@ -7,6 +7,8 @@ use crate::writing::Writes;
 
 /// The picture of the graph, where the library has it.
 pub const DOT: Option<Writes> = None;
+/// The recording with proposed yields, where the library has it.
+pub const PROPOSE: Option<Writes> = None;
 
 /// The proved checker.
 pub fn judge(input: &[u8], out: &mut [u8], work: &mut [u64]) -> Answer {

@@ -11,6 +11,7 @@ mod numbers;
 mod options;
 mod places;
 mod program;
+mod proposals;
 mod recordings;
 mod regressions;
 mod run;

@@ -3,7 +3,7 @@
 use std::time::Instant;
 
 use reference::words::words_of_bytes;
-use reference::WORK_AREA;
+use reference::{MOST_BYTES, WORK_AREA};
 
 use crate::case::Case;
 use crate::graphviz::Graphviz;
@@ -16,13 +16,16 @@ use crate::small::alphabets;
 use crate::swapped::{outcome, Outcome};
 use crate::tally::Tally;
 use crate::writing::Writes;
-use crate::{edges, fixed, library, places, recordings, regressions, texts, writing};
+use crate::{edges, fixed, library, places, proposals, recordings, regressions, texts, writing};
 
 /// After so many failures a run stops: the first ones say enough.
 const MOST_FAILURES: u64 = 5;
 
 /// Graphviz takes long for longer pictures: only the longest of all is shown to it.
 const MOST_SHOWN: usize = 20_000;
+
+/// Bytes of the longest fixed recording that yields are proposed for.
+const MOST_PROPOSED: usize = 8 * 512;
 
 /// No text or recording that is written is longer.
 const MOST_WRITTEN: usize = 4_000_000;
@@ -68,6 +71,9 @@ pub fn run(options: &Options) -> u64 {
     }
     if options.dot > 0 {
         run.phase("pictures of the graph", |run| run.pictures(options.dot, options.seed));
+    }
+    if options.propose > 0 {
+        run.phase("proposals of yields", |run| run.proposals(options.propose, options.seed));
     }
     run.tally.print();
     // A run of full size has to have met every refusal at every kind of record.
@@ -218,9 +224,34 @@ impl Run {
         }
         self.graphviz(&inputs);
         if let Some(dot) = library::DOT {
-            self.written(dot, reference::dot::dot, &inputs, &mut numbers);
+            self.written(dot, reference::dot::dot, 0, &inputs, &mut numbers);
         }
         self.runs(Program::dot(), inputs);
+    }
+
+    fn proposals(&mut self, count: u64, seed: u64) {
+        let mut numbers = Numbers::from_seed(seed.rotate_left(40));
+        let short = |input: &Vec<u8>| input.len() <= MOST_PROPOSED;
+        let mut inputs: Vec<Vec<u8>> = kept_and_fixed().into_iter().filter(short).collect();
+        inputs.extend(edges::recordings());
+        for _ in 0..count {
+            inputs.extend([recordings::violation(&mut numbers), recordings::any(&mut numbers)]);
+        }
+        inputs.extend(proposals::recordings(count, &mut numbers));
+        proposals::print(&inputs);
+        if let Some(propose) = library::PROPOSE {
+            self.written(propose, reference::propose::propose, MOST_BYTES, &inputs, &mut numbers);
+        }
+        let Some(program) = self.found(Program::propose()) else { return };
+        let file = proposals::new_file();
+        for (place, input) in inputs.into_iter().enumerate() {
+            let pieces = if place % 8 == 0 { 3 } else { 1 };
+            if self.failed < MOST_FAILURES {
+                self.check(&Case::plain(input), &|case| {
+                    proposals::difference(&program, &file, &case.input, pieces)
+                });
+            }
+        }
     }
 
     /// Graphviz reads each picture as the graph that was meant. Where it isn't installed, this is
@@ -251,17 +282,20 @@ impl Run {
         println!("of pictures: {shown} read by Graphviz, the longest of {longest} bytes");
     }
 
-    /// A function of the library that writes, with the output that it needs, more and less.
+    /// A function of the library that writes, with the output that it needs, at least so many bytes,
+    /// and with more and less.
     fn written(
         &mut self,
         library: Writes,
         reference: Writes,
+        least: usize,
         inputs: &[Vec<u8>],
         numbers: &mut Numbers,
     ) {
         let mut room = vec![0; MOST_WRITTEN];
         for input in inputs {
-            let needed = reference(input, &mut room, &mut [0; WORK_AREA]).unwrap_or(0);
+            let written = reference(input, &mut room, &mut [0; WORK_AREA]).unwrap_or(0);
+            let needed = written.max(least);
             for case in writing::cases(input, needed, numbers) {
                 if self.failed < MOST_FAILURES {
                     self.check(&case, &|case| writing::compared(case, library, reference));

@@ -8,6 +8,7 @@ pub mod dot;
 pub mod graph;
 mod judge;
 pub mod machine;
+pub mod propose;
 pub mod record;
 mod report;
 pub mod swaps;
