@@ -3,6 +3,13 @@
 use reference::why::{Reason, Why};
 use reference::Answer;
 
+use crate::writing::Writes;
+
+/// The picture of the graph, where the library has it.
+pub const DOT: Option<Writes> = None;
+/// The recording with proposed yields, where the library has it.
+pub const PROPOSE: Option<Writes> = None;
+
 /// The proved checker.
 pub fn judge(input: &[u8], out: &mut [u8], work: &mut [u64]) -> Answer {
     match quelohuite::judge(input, out, work) {

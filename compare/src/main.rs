@@ -4,12 +4,14 @@ mod case;
 mod damage;
 mod edges;
 mod fixed;
+mod graphviz;
 mod histories;
 mod library;
 mod numbers;
 mod options;
 mod places;
 mod program;
+mod proposals;
 mod recordings;
 mod regressions;
 mod run;
@@ -19,6 +21,7 @@ mod small;
 mod swapped;
 mod tally;
 mod texts;
+mod writing;
 
 use std::process::ExitCode;
 

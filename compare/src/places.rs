@@ -17,6 +17,8 @@ pub struct Asked {
     pub edges: u64,
     pub past_the_end: u64,
     pub refused: u64,
+    /// The length of the longest cycle.
+    pub longest: usize,
 }
 
 impl Asked {
@@ -28,6 +30,7 @@ impl Asked {
         self.edges += more.edges;
         self.past_the_end += more.past_the_end;
         self.refused += more.refused;
+        self.longest = self.longest.max(more.longest);
     }
 
     fn count(&mut self, answer: &Why) {
@@ -74,7 +77,7 @@ pub fn compared(case: &Case) -> Result<Asked, String> {
         Reasons::OfEdges(edges) => edges.len(),
         Reasons::Refused { .. } => 0,
     };
-    let mut asked = Asked::default();
+    let mut asked = Asked { longest: length, ..Asked::default() };
     for place in places(length) {
         let said: Left<Why> = reference.with(reference.answer.at(place as u64));
         asked.count(&said.answer);

@@ -1,5 +1,6 @@
 //! The programs, each run as a process of its own.
 
+use std::ffi::OsStr;
 use std::io::{self, Read, Write};
 use std::path::{Path, PathBuf};
 use std::process::{Child, Command, Stdio};
@@ -33,6 +34,14 @@ impl Program {
         Program::find("from_text", reference::text::from_text)
     }
 
+    pub fn dot() -> Result<Program, String> {
+        Program::find("dot", reference::dot::report)
+    }
+
+    pub fn propose() -> Result<Program, String> {
+        Program::find("propose", |input| reference::propose::report(input).text)
+    }
+
     /// Finds the program in target/bin and a way to run it: by itself, by the kit's loader, or, on
     /// a processor other than x86-64, by the kit's emulator.
     fn find(name: &'static str, expected: Expected) -> Result<Program, String> {
@@ -55,9 +64,10 @@ impl Program {
         self.printed(b"", 1).is_ok()
     }
 
-    fn spawn(&self) -> io::Result<Child> {
+    fn spawn(&self, words: &[&OsStr]) -> io::Result<Child> {
         Command::new(&self.words[0])
             .args(&self.words[1..])
+            .args(words)
             .stdin(Stdio::piped())
             .stdout(Stdio::piped())
             .stderr(Stdio::inherit())
@@ -66,7 +76,17 @@ impl Program {
 
     /// What it prints for this standard input, which comes in so many pieces.
     pub fn printed(&self, input: &[u8], pieces: usize) -> io::Result<Vec<u8>> {
-        let mut child = self.spawn()?;
+        self.printed_with(&[], input, pieces)
+    }
+
+    /// The same, with these words behind its name.
+    pub fn printed_with(
+        &self,
+        words: &[&OsStr],
+        input: &[u8],
+        pieces: usize,
+    ) -> io::Result<Vec<u8>> {
+        let mut child = self.spawn(words)?;
         if let Some(mut pipe) = child.stdin.take() {
             for (place, piece) in input.chunks((input.len() / pieces).max(1)).enumerate() {
                 if place > 0 {

@@ -3,8 +3,10 @@
 use std::time::Instant;
 
 use reference::words::words_of_bytes;
+use reference::{MOST_BYTES, WORK_AREA};
 
 use crate::case::Case;
+use crate::graphviz::Graphviz;
 use crate::numbers::Numbers;
 use crate::options::Options;
 use crate::places::Asked;
@@ -13,10 +15,20 @@ use crate::shrink::shrink;
 use crate::small::alphabets;
 use crate::swapped::{outcome, Outcome};
 use crate::tally::Tally;
-use crate::{edges, fixed, places, recordings, regressions, texts};
+use crate::writing::Writes;
+use crate::{edges, fixed, library, places, proposals, recordings, regressions, texts, writing};
 
 /// After so many failures a run stops: the first ones say enough.
 const MOST_FAILURES: u64 = 5;
+
+/// Graphviz takes long for longer pictures: only the longest of all is shown to it.
+const MOST_SHOWN: usize = 20_000;
+
+/// Bytes of the longest fixed recording that yields are proposed for.
+const MOST_PROPOSED: usize = 8 * 512;
+
+/// No text or recording that is written is longer.
+const MOST_WRITTEN: usize = 4_000_000;
 
 /// Says in words what a case shows to differ.
 type Differs<'a> = &'a dyn Fn(&Case) -> Option<String>;
@@ -56,6 +68,12 @@ pub fn run(options: &Options) -> u64 {
     if options.text > 0 {
         run.phase("runs of to_text", |run| run.texts_written(options.text, options.seed));
         run.phase("runs of from_text", |run| run.texts_read(options.text, options.seed));
+    }
+    if options.dot > 0 {
+        run.phase("pictures of the graph", |run| run.pictures(options.dot, options.seed));
+    }
+    if options.propose > 0 {
+        run.phase("proposals of yields", |run| run.proposals(options.propose, options.seed));
     }
     run.tally.print();
     // A run of full size has to have met every refusal at every kind of record.
@@ -162,9 +180,9 @@ impl Run {
                 Err(_) => self.fail(&case, &|case| places::compared(case).err()),
             }
         }
-        let Asked { edges, past_the_end, refused } = asked;
+        let Asked { edges, past_the_end, refused, longest } = asked;
         println!(
-            "of asked by place: {edges} edges, {past_the_end} past the end, {refused} refused"
+            "of asked by place: {edges} edges (cycles to {longest}), {past_the_end} past the end, {refused} refused"
         );
     }
 
@@ -192,6 +210,95 @@ impl Run {
                 Some(said) => {
                     self.failed += 1;
                     println!("failed on the text\n{}{said}", shown(&input));
+                }
+            }
+        }
+    }
+
+    fn pictures(&mut self, count: u64, seed: u64) {
+        let mut numbers = Numbers::from_seed(seed.rotate_left(24));
+        let mut inputs = kept_and_fixed();
+        inputs.extend(edges::recordings());
+        for _ in 0..count {
+            inputs.extend([recordings::violation(&mut numbers), recordings::any(&mut numbers)]);
+        }
+        self.graphviz(&inputs);
+        if let Some(dot) = library::DOT {
+            self.written(dot, reference::dot::dot, 0, &inputs, &mut numbers);
+        }
+        self.runs(Program::dot(), inputs);
+    }
+
+    fn proposals(&mut self, count: u64, seed: u64) {
+        let mut numbers = Numbers::from_seed(seed.rotate_left(40));
+        let short = |input: &Vec<u8>| input.len() <= MOST_PROPOSED;
+        let mut inputs: Vec<Vec<u8>> = kept_and_fixed().into_iter().filter(short).collect();
+        inputs.extend(edges::recordings());
+        for _ in 0..count {
+            inputs.extend([recordings::violation(&mut numbers), recordings::any(&mut numbers)]);
+        }
+        inputs.extend(proposals::recordings(count, &mut numbers));
+        proposals::print(&inputs);
+        if let Some(propose) = library::PROPOSE {
+            self.written(propose, reference::propose::propose, MOST_BYTES, &inputs, &mut numbers);
+        }
+        let Some(program) = self.found(Program::propose()) else { return };
+        let file = proposals::new_file();
+        for (place, input) in inputs.into_iter().enumerate() {
+            let pieces = if place % 8 == 0 { 3 } else { 1 };
+            if self.failed < MOST_FAILURES {
+                self.check(&Case::plain(input), &|case| {
+                    proposals::difference(&program, &file, &case.input, pieces)
+                });
+            }
+        }
+    }
+
+    /// Graphviz reads each picture as the graph that was meant. Where it isn't installed, this is
+    /// said, and nothing is counted.
+    fn graphviz(&mut self, inputs: &[Vec<u8>]) {
+        let Some(graphviz) = Graphviz::find() else {
+            println!("Graphviz is not installed: no picture is shown to it");
+            return;
+        };
+        let Some(program) = self.found(Program::dot()) else { return };
+        let drawn = |input: &[u8]| {
+            let picture = program.printed(input, 1).ok()?;
+            picture.starts_with(b"digraph").then_some(picture)
+        };
+        let lengths: Vec<usize> =
+            inputs.iter().map(|input| drawn(input).map_or(0, |picture| picture.len())).collect();
+        let longest = lengths.iter().copied().max().unwrap_or(0);
+        let mut shown = 0;
+        for (input, length) in inputs.iter().zip(lengths) {
+            let is_shown = length > 0 && (length <= MOST_SHOWN || length == longest);
+            if is_shown && self.failed < MOST_FAILURES {
+                shown += 1;
+                self.check(&Case::plain(input.clone()), &|case| {
+                    graphviz.difference(&drawn(&case.input)?)
+                });
+            }
+        }
+        println!("of pictures: {shown} read by Graphviz, the longest of {longest} bytes");
+    }
+
+    /// A function of the library that writes, with the output that it needs, at least so many bytes,
+    /// and with more and less.
+    fn written(
+        &mut self,
+        library: Writes,
+        reference: Writes,
+        least: usize,
+        inputs: &[Vec<u8>],
+        numbers: &mut Numbers,
+    ) {
+        let mut room = vec![0; MOST_WRITTEN];
+        for input in inputs {
+            let written = reference(input, &mut room, &mut [0; WORK_AREA]).unwrap_or(0);
+            let needed = written.max(least);
+            for case in writing::cases(input, needed, numbers) {
+                if self.failed < MOST_FAILURES {
+                    self.check(&case, &|case| writing::compared(case, library, reference));
                 }
             }
         }

@@ -12,7 +12,7 @@ pub struct Edges {
 
 impl Edges {
     /// No edges yet, between this many transactions.
-    fn none(transactions: usize) -> Edges {
+    pub(crate) fn none(transactions: usize) -> Edges {
         Edges {
             successors: vec![Vec::new(); transactions],
             there: vec![vec![false; transactions]; transactions],
@@ -32,7 +32,7 @@ impl Edges {
 
     /// Brings in the record at `place`: an edge from each other transaction with an operation
     /// before it that conflicts with it. Says whether there was a new edge.
-    fn extend(&mut self, events: &[Event], numbers: &[usize], place: usize) -> bool {
+    pub(crate) fn extend(&mut self, events: &[Event], numbers: &[usize], place: usize) -> bool {
         let mut new = false;
         for earlier in 0..place {
             let (from, to) = (numbers[earlier], numbers[place]);
@@ -42,6 +42,37 @@ impl Edges {
             }
         }
         new
+    }
+
+    /// Whether bringing in the record at `place` would close a cycle, where there is none yet. It
+    /// would go from that record's transaction to another, and back by an edge that the record makes.
+    pub(crate) fn would_close_a_cycle(
+        &self,
+        events: &[Event],
+        numbers: &[usize],
+        place: usize,
+    ) -> bool {
+        let to = numbers[place];
+        let reached = self.with_a_path_from(to);
+        (0..place).any(|earlier| {
+            let from = numbers[earlier];
+            from != to && reached[from] && conflict(&events[earlier], &events[place])
+        })
+    }
+
+    /// For each transaction, whether there is a path to it from `start`.
+    fn with_a_path_from(&self, start: usize) -> Vec<bool> {
+        let mut found = vec![false; self.successors.len()];
+        let mut to_visit = vec![start];
+        while let Some(at) = to_visit.pop() {
+            for next in &self.successors[at] {
+                if !found[*next] {
+                    found[*next] = true;
+                    to_visit.push(*next);
+                }
+            }
+        }
+        found
     }
 
     /// A plain search in depth, from every transaction in turn.

@@ -16,6 +16,9 @@ pub enum Answer {
     Refused { number: u64, record: u64 },
 }
 
+/// The number of a refusal, and its record or line.
+pub type Refusal = (u8, usize);
+
 fn refused(number: u8, record: usize) -> Answer {
     Answer::Refused { number: u64::from(number), record: record as u64 }
 }
@@ -45,23 +48,24 @@ pub fn judge(input: &[u8], out: &mut [u8], work: &mut [u64]) -> Answer {
 }
 
 fn fault_of_lengths(input: &[u8], out: &[u8], work: &[u64]) -> Option<u8> {
+    let short = (out.len() < input.len()).then_some(3);
+    fault_of_input(input).or(short).or(fault_of_work(work))
+}
+
+/// 1 or 2.
+pub(crate) fn fault_of_input(input: &[u8]) -> Option<u8> {
     if input.len() % RECORD_LENGTH != 0 {
         return Some(1);
     }
-    if input.len() > MOST_BYTES {
-        return Some(2);
-    }
-    if out.len() < input.len() {
-        return Some(3);
-    }
-    if work.len() < WORK_AREA {
-        return Some(4);
-    }
-    None
+    (input.len() > MOST_BYTES).then_some(2)
+}
+
+pub(crate) fn fault_of_work(work: &[u64]) -> Option<u8> {
+    (work.len() < WORK_AREA).then_some(4)
 }
 
 /// The events, or the first record with any fault and its lowest number.
-pub fn possible_history(input: &[u8]) -> Result<Vec<Event>, (u8, usize)> {
+pub fn possible_history(input: &[u8]) -> Result<Vec<Event>, Refusal> {
     let mut events: Vec<Event> = Vec::new();
     let mut machine = Machine::fresh();
     for (record, bytes) in input.chunks(RECORD_LENGTH).enumerate() {

@@ -4,9 +4,11 @@
 //! the sentence of document 01 that it follows. It shares nothing with the proved checker.
 
 pub mod conflict;
+pub mod dot;
 pub mod graph;
 mod judge;
 pub mod machine;
+pub mod propose;
 pub mod record;
 mod report;
 pub mod swaps;
@@ -15,5 +17,5 @@ pub mod transactions;
 pub mod why;
 pub mod words;
 
-pub use judge::{faults, judge, possible_history, Answer, MOST_BYTES, WORK_AREA};
+pub use judge::{faults, judge, possible_history, Answer, Refusal, MOST_BYTES, WORK_AREA};
 pub use report::{report, MOST_READ};

@@ -1,6 +1,8 @@
 //! What the program prints.
 
-use crate::judge::{first_record, judge, possible_history, verdict, Answer, Verdict, WORK_AREA};
+use crate::judge::{
+    first_record, judge, possible_history, verdict, Answer, Refusal, Verdict, WORK_AREA,
+};
 use crate::record::Event;
 use crate::transactions::transactions;
 
@@ -35,6 +37,11 @@ pub(crate) fn first_line(answer: &Answer) -> String {
         Answer::Violation { record, length } => format!("violation {record} {length}\n"),
         Answer::Refused { number, record } => format!("refused {number} {record}\n"),
     }
+}
+
+/// A refusal as a line.
+pub(crate) fn refused_line((number, place): Refusal) -> String {
+    format!("refused {number} {place}\n")
 }
 
 /// For each transaction: its number, its thread, its first record.

@@ -1,8 +1,8 @@
 //! The written form: a line such as `0 write 3 5` for each record.
 
-use crate::judge::MOST_BYTES;
+use crate::judge::{fault_of_input, Refusal};
 use crate::record::{decode, encode, Event, MARK, RECORD_LENGTH};
-use crate::report::MOST_READ;
+use crate::report::{refused_line, MOST_READ};
 
 /// The names of kinds 1 to 10.
 const NAMES: [&str; 10] = [
@@ -14,9 +14,6 @@ const MOST_LINES: usize = 1024;
 pub const MOST_TEXT_READ: usize = 32768;
 /// No line is longer than `15 write 255 65535` with its line feed.
 const LONGEST_LINE: usize = 19;
-
-/// The number of a refusal, and its record or line.
-pub type Refusal = (u8, usize);
 
 /// How many fields the kind has after its name.
 fn fields(kind: u8) -> usize {
@@ -91,11 +88,8 @@ pub fn read(text: &[u8], out: &mut [u8]) -> Result<usize, Refusal> {
 /// Writes records as a text; gives the number of bytes written. A refusal leaves the output as it
 /// was. That the records are a possible history is not asked.
 pub fn write(input: &[u8], out: &mut [u8]) -> Result<usize, Refusal> {
-    if input.len() % RECORD_LENGTH != 0 {
-        return Err((1, 0));
-    }
-    if input.len() > MOST_BYTES {
-        return Err((2, 0));
+    if let Some(number) = fault_of_input(input) {
+        return Err((number, 0));
     }
     let mut text = String::new();
     for (place, record) in input.chunks(RECORD_LENGTH).enumerate() {
@@ -132,6 +126,6 @@ fn printed(mut out: Vec<u8>, written: Result<usize, Refusal>) -> Vec<u8> {
             out.truncate(length);
             out
         }
-        Err((number, place)) => format!("refused {number} {place}\n").into_bytes(),
+        Err(refusal) => refused_line(refusal).into_bytes(),
     }
 }

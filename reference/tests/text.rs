@@ -1,6 +1,7 @@
 //! The written form, with lines, bytes and refusals written out by hand.
 
-use reference::text::{from_text, read, to_text, write, Refusal};
+use reference::text::{from_text, read, to_text, write};
+use reference::Refusal;
 
 const BEFORE: u8 = 0xEE;
 

@@ -36,7 +36,7 @@ use Rattle.checker.proofs.Commute.{swaps-replay}
 -- ---- what is written can be read
 
 -- records written one after the other, read back
-records-written : (t : List Event) (rest : List ℕ) → records (length t) (each encoded t ++ rest) ≡ map encoded t
+pub records-written : (t : List Event) (rest : List ℕ) → records (length t) (each encoded t ++ rest) ≡ map encoded t
 unfolding records each encoded
 records-written [] rest = refl
 records-written (e ∷ t) rest = ap (λ l. encoded e ∷ l) (records-written t rest)
@@ -59,7 +59,7 @@ decoded-all (e ∷ t) h = ap₂ (λ d l. d ∷ l) (decode-encoded e (h e Among.t
 all-ranged : (rs : List (List ℕ)) → Every (λ r. length r ≡ 8) rs → Every InForm rs → (e : Event) → Among e (map event rs) → T (inRange e)
 all-ranged (r ∷ rs) s f e m = among-cons m (λ q. subst (λ x. T (inRange x)) (sym q) (decoded-range r (event r) (decoded-good r (s .0) (f .0)))) (λ n. all-ranged rs (s .1) (f .1) e n)
 
-ranged : (input out work : List ℕ) → refusal input out work .number ≡ 0 → (e : Event) → Among e (events input) → T (inRange e)
+pub ranged : (input out work : List ℕ) → refusal input out work .number ≡ 0 → (e : Event) → Among e (events input) → T (inRange e)
 unfolding events
 ranged input out work fine e m = all-ranged (recordsOf input) (records-sized input out work fine) (passed input out work fine .1) e m
 
@@ -90,7 +90,7 @@ module _ (input out work : List ℕ) (fine : refusal input out work .number ≡ 
     unfolding verdict
     is-cooperable = judged-fine (cooperable es) (rw (none, verdict))
 
-    kind-cooperable : judged input out work .answer .kind ≡ 0
+    pub kind-cooperable : judged input out work .answer .kind ≡ 0
     unfolding cooperable
     kind-cooperable = ap (λ j. j .answer .kind) is-cooperable
 
@@ -127,11 +127,11 @@ module _ (input out work : List ℕ) (fine : refusal input out work .number ≡ 
     unfolding verdict
     is-violation = judged-fine (violation es k) (rw (some, verdict))
 
-    kind-violation : judged input out work .answer .kind ≡ 1
+    pub kind-violation : judged input out work .answer .kind ≡ 1
     unfolding violation
     kind-violation = ap (λ j. j .answer .kind) is-violation
 
-    place-is : judged input out work .answer .first ≡ k
+    pub place-is : judged input out work .answer .first ≡ k
     unfolding violation
     place-is = ap (λ j. j .answer .first) is-violation
 

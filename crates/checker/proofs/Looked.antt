@@ -77,7 +77,8 @@ module _ (r : Run) (bs : List ℕ) where
   unfolding firstFault
   full-fault h q f = event-passed h q ∙ ap (λ t. firstFault (room t)) f
 
-  no-fault : firstFault (Record.checks bs) ≡ 0 → faultOf (r .state) (event bs) ≡ 0 → full (r .tally) (event bs) ≡ false → firstFault (recordChecks r bs) ≡ 0
+  -- a record that passes all three parts has no fault
+  pub no-fault : firstFault (Record.checks bs) ≡ 0 → faultOf (r .state) (event bs) ≡ 0 → full (r .tally) (event bs) ≡ false → firstFault (recordChecks r bs) ≡ 0
   unfolding firstFault
   no-fault h q f = event-passed h q ∙ ap (λ t. firstFault (room t)) f
 
@@ -116,7 +117,7 @@ saw-faulty r bs after zero h q = absurd (q refl)
 saw-faulty r bs after (suc n) h q = record { answer = sym (seen-faulty r bs n h); onward = λ z. absurd (omega (arith, h, z)) }
 
 -- whether a 513th transaction would begin, as counting says it
-counted-full : (s : Tally) (e : Event) → numbered s e ≡ Full → full s e ≡ true
+pub counted-full : (s : Tally) (e : Event) → numbered s e ≡ Full → full s e ≡ true
 unfolding numbered
 counted-full s e h = go (full s e) refl
   where
@@ -126,7 +127,7 @@ counted-full s e h = go (full s e) refl
         let x : Of (belongs s e) ≡ Full = ap (λ t. cond t Full (Of (belongs s e))) (sym q) ∙ h in
         let z : _≡_ {A = ℕ} 0 1 = cc x in absurd (omega arith)
 
-counted-of : (s : Tally) (e : Event) (a : ℕ) → numbered s e ≡ Of a → (full s e ≡ false) × (belongs s e ≡ a)
+pub counted-of : (s : Tally) (e : Event) (a : ℕ) → numbered s e ≡ Of a → (full s e ≡ false) × (belongs s e ≡ a)
 unfolding numbered
 counted-of s e a h = go (full s e) refl
   where
@@ -142,7 +143,7 @@ stepped-next : (s : State) (e : Event) → faultOf s e ≡ 0 → stepped s e ≡
 unfolding stepped
 stepped-next s e h = rw (h, stepped)
 
-counted-tallied : (s : Tally) (e : Event) → full s e ≡ false → counted s e ≡ tallied s e
+pub counted-tallied : (s : Tally) (e : Event) → full s e ≡ false → counted s e ≡ tallied s e
 unfolding counted
 counted-tallied s e h = ap (λ t. cond t s (tallied s e)) h
 

@@ -12,7 +12,7 @@ fn run(name: &[u8], input: &[u8], n: usize) {
         return;
     }
     printing::print_word(name);
-    match checker::judge(&input[..n], &mut out, &mut work) {
+    match fast::judge(&input[..n], &mut out, &mut work) {
         Answer::Cooperable {
             records,
             transactions,

@@ -47,7 +47,7 @@ fn main() {
     let mut work = [0u64; 4096];
     let mut lines = [0u16; 1536];
     let n = io::read_full(STDIN_FILENO, &mut input);
-    match checker::report(&input[..n], &mut out, &mut work, &mut lines) {
+    match fast::report(&input[..n], &mut out, &mut work, &mut lines) {
         Answer::Cooperable {
             records,
             transactions,

@@ -1,4 +1,4 @@
-// The checker for C and Rust: exported functions over `checker::judge` and `reasons::why`, each with its whole promise.
+// The checker for C and Rust: exported functions over `fast::judge`, `checker::judge` and `reasons::why`, each with its whole promise.
 use checker::Answer;
 ghost use mathlib.Core.Path.{_≡_};
 ghost use mathlib.Core.List.{[], _∷_};
@@ -41,9 +41,19 @@ fn in_numbers(a: Answer) -> Told
     }
 }
 
-// Judges a recording: the answer in numbers, and the output and the work area at the end.
+// Judges a recording by the second engine: the answer in numbers, and the output and the work area at the end.
 #[no_mangle]
 pub extern "C" fn quelohuite_judge(input: &[u8], out: &mut [u8], work: &mut [u64]) -> Told
+    ensures { λ r. ⌜ _≡_ {A = Judged} (record { answer = told r; out = now (out .exit); work = now (work .exit) })
+        (judged (now (input .entry)) (now (out .entry)) (now (work .entry))) ⌝ }
+{
+    let answer = fast::judge(input, out, work);
+    in_numbers(answer)
+}
+
+// The same by the plain engine, to be held against it.
+#[no_mangle]
+pub extern "C" fn quelohuite_judge_plain(input: &[u8], out: &mut [u8], work: &mut [u64]) -> Told
     ensures { λ r. ⌜ _≡_ {A = Judged} (record { answer = told r; out = now (out .exit); work = now (work .exit) })
         (judged (now (input .entry)) (now (out .entry)) (now (work .entry))) ⌝ }
 {

@@ -62,7 +62,7 @@ pub fn why(input: &[u8], out: &mut [u8], work: &mut [u64], place: usize) -> Told
     ensures { λ r. ⌜ _≡_ {A = Asked} (record { answer = numbers r; out = now (out .exit); work = now (work .exit) })
         (asked (now (input .entry)) (now (out .entry)) (now (work .entry)) place) ⌝ }
 {
-    match checker::judge(input, out, work) {
+    match fast::judge(input, out, work) {
         Answer::Refused(refusal) => Told::Refused(refusal),
         Answer::Cooperable {
             records: _,
@@ -86,7 +86,7 @@ pub fn explain(input: &[u8], out: &mut [u8], work: &mut [u64], lines: &mut [u16;
         (judged (now (input .entry)) (now (out .entry)) (now (work .entry))))
         × (now (lines .exit) ≡ explained (now (input .entry)) (now (out .entry)) (now (work .entry)) (now (lines .entry))) ⌝ }
 {
-    let answer = checker::judge(input, out, work);
+    let answer = fast::judge(input, out, work);
     match answer {
         Answer::Violation { record, length } => {
             let mut labels = [0u16; 1024];

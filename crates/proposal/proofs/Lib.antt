@@ -1,0 +1,15 @@
+pub mod Appending
+pub mod Orders
+pub mod Idle
+pub mod Cycles
+pub mod Walks
+pub mod Bytes
+pub mod Dropped
+pub mod Right
+pub mod Answers
+pub mod Weaving
+pub mod Keeping
+pub mod Underway
+pub mod Proposing
+pub mod Putting
+pub mod Examples

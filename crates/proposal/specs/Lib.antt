@@ -1,0 +1,5 @@
+pub mod Walk
+pub mod Proposed
+pub mod Meaning
+pub mod Weaving
+pub mod Keeping
