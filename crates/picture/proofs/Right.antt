@@ -4,13 +4,14 @@ use native.Mathlib.Omega.{arith}
 use native.Mathlib.Nat.{mul-suc, mul-zero}
 use mathlib.Core.Path.{_≡_, refl, sym, ap, _∙_, subst}
 use mathlib.Core.Logic.{_⊎_, inl, inr}
-use mathlib.Core.Bool.{Bool, true}
+use mathlib.Core.Bool.{Bool, true, false}
 use mathlib.Core.List.{List, [], _∷_, _++_, map}
 use lib.Dec.{T, leb}
-use lib.ListN.{length, getD, length-append, length-map}
+use lib.ListN.{length, getD, take, drop, length-append, length-map}
+use lib.Seq.{take-append-seam}
 use borrow.Author.Tests.{le-leb}
 use Rattle.record.specs.declared.Event.{Event}
-use Rattle.trace.specs.Lists.{keep, each, from, below}
+use Rattle.trace.specs.Lists.{keep, each, from, below, over}
 use Rattle.trace.specs.Paths.{Edge, hasEdge}
 use Rattle.trace.proofs.Tests.{by}
 use Rattle.trace.proofs.Lists.{Among, among-at, length-from, from-at, from-le, below-has, below-bound, keep-true, keep-false, keep-among, keep-has, count-all, among-map, among-unmap}
@@ -23,7 +24,7 @@ use Rattle.checker.specs.Refusals.{events}
 use Rattle.checker.proofs.Ending.{each-each}
 use Rattle.picture.specs.Picture.{opening, closing, transactionLine, edge, edgeLine, edgesFrom, edgesInOrder, drawing, picture}
 use Rattle.picture.specs.Drawn.{refusal, fitted, drawn}
-use Rattle.picture.specs.Meaning.{Earlier, Shows, roomForAll, AlwaysFits}
+use Rattle.picture.specs.Meaning.{Earlier, Shows, roomForAll, Demanded}
 use Rattle.picture.proofs.Texts.{transaction-size, edge-size}
 use Rattle.picture.proofs.Endings.{at-among, refusal-few}
 
@@ -111,9 +112,9 @@ module _ (n : ℕ) (g : List Edge) where
       let q = from-row (r .0) (edge a b) (r .2) in
       subst (λ c. T (hasEdge g c b)) (sym (q .0)) (q .1)
 
--- ---- Document 02, L5
+-- ---- What the picture shows
 
-pub picture-right : (es : List Event) → Shows es
+picture-right : (es : List Event) → Shows es
 unfolding picture drawing edgesInOrder transactions
 picture-right es = record {
   named = below (transactions es);
@@ -155,7 +156,7 @@ row-most n g a few h =
         let low : r .0 < n = below-bound n (r .0) (keep-among (hasEdge g a) (r .0) (below n) (r .1) .0) in
         subst (λ x. length (edgeLine x) ≤ 12) (r .2) (edge-size a (r .0) (omega arith) (omega arith))
 
-pub drawing-most : (n : ℕ) (g : List Edge) → n ≤ 512 → length (drawing n g) ≤ roomForAll
+drawing-most : (n : ℕ) (g : List Edge) → n ≤ 512 → length (drawing n g) ≤ roomForAll
 unfolding drawing edgesInOrder
 drawing-most n g few =
     let names : List ℕ = each transactionLine (below n) in
@@ -166,11 +167,35 @@ drawing-most n g few =
     each-most (λ a. each edgeLine (edgesFrom n g a)) 6144 (below n) (λ a m. row-most n g a few (below-bound n a m)) in
     omega (arith, length-append opening (names ++ (links ++ closing)), length-append names (links ++ closing), length-append links closing, named, linked, ap length same, length-from 0 n)
 
-pub always-fits : (input out work : List ℕ) → AlwaysFits input out work
-unfolding drawn fitted picture
-always-fits input out work = record {
-  written = λ room none.
+-- ---- Document 02, L5, of drawing
+
+module _ (input out work : List ℕ) where
+  abbrev text : List ℕ
+  text = picture (events input)
+
+  kind-refused : (n : ℕ) → refusal input work .number ≡ suc n → drawn input out work .answer .kind ≡ 2
+  unfolding drawn
+  kind-refused n q = rw (q, drawn)
+
+  kind-unfit : refusal input work .number ≡ 0 → leb (length text) (length out) ≡ false → drawn input out work .answer .kind ≡ 2
+  unfolding drawn fitted
+  kind-unfit q e = rw (q, e, drawn, fitted)
+
+  front-fit : refusal input work .number ≡ 0 → leb (length text) (length out) ≡ true → take (drawn input out work .answer .first) (drawn input out work .out) ≡ text
+  unfolding drawn fitted over
+  front-fit q e = rw (q, e, drawn, fitted) (take-append-seam text (drop (length text) out))
+
+  always-fits : roomForAll ≤ length out → refusal input work .number ≡ 0 → drawn input out work .answer ≡ record { kind = 0; first = length text; second = 0 }
+  unfolding drawn fitted picture
+  always-fits room none =
       let few = refusal-few input work none in
-      let fits : leb (length (picture (events input))) (length out) ≡ true = le-leb (length (picture (events input))) (length out) (omega (arith, room, drawing-most (transactions (events input)) (edges (labelled (events input))) few)) in
-      rw (none, fits, drawn, fitted);
-}
+      let fits : leb (length text) (length out) ≡ true =
+      le-leb (length text) (length out) (omega (arith, room, drawing-most (transactions (events input)) (edges (labelled (events input))) few)) in
+      rw (none, fits, drawn, fitted)
+
+  pub demanded : Demanded input out work
+  demanded = record { written = λ h. go h (refusal input work .number) refl; shown = picture-right (events input); fits = always-fits }
+    where
+      go : drawn input out work .answer .kind ≡ 0 → (n : ℕ) → refusal input work .number ≡ n → take (drawn input out work .answer .first) (drawn input out work .out) ≡ text
+      go h zero q = by (leb (length text) (length out)) (λ e. front-fit q e) (λ e. absurd (omega (arith, h, kind-unfit q e)))
+      go h (suc n) q = absurd (omega (arith, h, kind-refused n q))

@@ -1,10 +1,9 @@
--- What document 02, L5, demands of the picture, as one statement, and how much room it needs. The proofs are `picture-right` and
--- `always-fits` in proofs/Right.
+-- What document 02, L5, demands of the picture, as one statement. Its proof is `demanded` in proofs/Right.
 use Prim.Native.Nat.{ℕ, _<_, _≤_}
 use mathlib.Core.Path.{_≡_}
 use mathlib.Core.Logic.{_↔_, _⊎_}
 use mathlib.Core.List.{List, _++_}
-use lib.ListN.{length, getD}
+use lib.ListN.{length, getD, take}
 use lib.Dec.{T}
 use Rattle.record.specs.declared.Event.{Event}
 use Rattle.trace.specs.Lists.{each}
@@ -32,13 +31,16 @@ pub record Shows (es : List Event) : Type 0 where
   -- strictly rising, so each is drawn once
   pub rising : (i j : ℕ) → i < j → j < length drawn-edges → Earlier (getD drawn-edges i (edge 0 0)) (getD drawn-edges j (edge 0 0))
 
--- ---- Room for every picture
-
--- so many bytes are enough: the first line and the last 12, 512 lines of 5, and 512 times 512 lines of 12
+-- so many bytes are enough for any: the first line and the last 12, 512 lines of 5, and 512 times 512 lines of 12
 abbrev pub roomForAll : ℕ
 roomForAll = 3148300
 
--- where the output has them, number 3 is never given
-pub record AlwaysFits (input out work : List ℕ) : Type 0 where
-  pub written : roomForAll ≤ length out → refusal input work .number ≡ 0
+-- What is demanded of drawing
+pub record Demanded (input out work : List ℕ) : Type 0 where
+  -- where bytes are written, they are the picture of the recording's history, also where it is a violation
+  pub written : drawn input out work .answer .kind ≡ 0 → take (drawn input out work .answer .first) (drawn input out work .out) ≡ picture (events input)
+  -- which shows every transaction and every edge, each once and in order, and nothing else
+  pub shown : Shows (events input)
+  -- where there is room for any picture and the recording isn't refused, they are written: number 3 is never given
+  pub fits : roomForAll ≤ length out → refusal input work .number ≡ 0
       → drawn input out work .answer ≡ record { kind = 0; first = length (picture (events input)); second = 0 }
