@@ -1,8 +1,8 @@
 -- Laws of the end of a judgement: what is to be written fits, and is what the definitions name.
-use Prim.Native.Nat.{ℕ, zero, suc, _+_, _*_, _≤_}
+use Prim.Native.Nat.{ℕ, zero, suc, _*_, _≤_}
 use native.Mathlib.Omega.{arith}
 use mathlib.Core.Path.{_≡_, refl, sym, ap, ap₂, _∙_, subst}
-use mathlib.Core.List.{List, [], _∷_, _++_, append-assoc}
+use mathlib.Core.List.{List, [], _∷_}
 use lib.ListN.{length, take, length-append}
 use lib.Seq.{length-take-le}
 use Rattle.record.specs.declared.Event.{Event}
@@ -11,30 +11,19 @@ use Rattle.record.proofs.Laws.{length-encoded}
 use Rattle.trace.specs.Lists.{each, over}
 use Rattle.graph.specs.declared.Arranged.{Arranged}
 use Rattle.graph.specs.declared.Arranged.the-variants.{Unfit, Ordered, Cyclic}
-use Rattle.graph.specs.Transactions.{Labelled, labelled, transactions}
+use Rattle.graph.specs.Transactions.{labelled, transactions}
 use Rattle.graph.specs.Serial.{eventsOf, threadOf, serialOrder, serialTrace}
 use Rattle.graph.specs.Violation.{shortest, cycleOf}
 use Rattle.graph.specs.Arranged.{named, found}
-use Rattle.graph.specs.Engine.{held}
+use Rattle.graph.specs.Engine.{held, Few}
+use Rattle.graph.proofs.Arranging.{labels-below}
 use Rattle.graph.proofs.Sizes.{order-size, trace-size, cycle-most, transactions-most}
-use Rattle.checker.specs.declared.Answer.{Answer}
 use Rattle.checker.specs.declared.Answer.the-variants.{Cooperable, Violation}
 use Rattle.checker.specs.Verdict.{numbers, verdict, cooperable, violation}
 use Rattle.checker.specs.Report as Report
 use Rattle.checker.specs.Writing.{bytesOf, lineOf}
 use Rattle.checker.specs.Concluded.{Ready, Concluded}
-
--- ---- Each of each
-
-each-append : {A B : Type 0} (f : A → List B) (l m : List A) → each f (l ++ m) ≡ each f l ++ each f m
-unfolding each
-each-append f [] m = refl
-each-append f (x ∷ l) m = ap (λ r. f x ++ r) (each-append f l m) ∙ sym (append-assoc (f x) (each f l) (each f m))
-
-pub each-each : {A B C : Type 0} (f : B → List C) (g : A → List B) (l : List A) → each (λ x. each f (g x)) l ≡ each f (each g l)
-unfolding each
-each-each f g [] = refl
-each-each f g (x ∷ l) = ap (λ r. each f (g x) ++ r) (each-each f g l) ∙ sym (each-append f (g x) (each g l))
+use Rattle.checker.proofs.Written.{each-each}
 
 encoded-size : (es : List Event) → length (each encoded es) ≡ 8 * length es
 unfolding each
@@ -81,7 +70,7 @@ named-cycle es k h = ap (named es) h
 
 -- ---- What is written
 
-module _ (a : Arranged) (es all : List Event) (labels : List ℕ) (count : ℕ) (order out lines : List ℕ) (r : Ready a es all labels count order out lines) where
+module _ (a : Arranged) (es all : List Event) (labels : List ℕ) (count : ℕ) (order out : List ℕ) (r : Ready a es all labels count order out) where
   -- by arrays as by events
   lines-are : (l : List ℕ) → each (lineOf count all labels) l ≡ each (Report.line es) l
   unfolding lineOf Report.line
@@ -95,24 +84,26 @@ module _ (a : Arranged) (es all : List Event) (labels : List ℕ) (count : ℕ) 
   front-named : (n : ℕ) → n ≡ length (named es (shortest es)) → take n order ≡ named es (shortest es)
   front-named n h = ap (λ k. take k order) h ∙ r .order-is
 
-  lines-named : (n : ℕ) (lines′ : List ℕ) → n ≡ length (named es (shortest es)) → lines′ ≡ over (each (lineOf count all labels) (take n order)) lines
-      → lines′ ≡ over (Report.lines es) lines
+  pub lines-named : (n : ℕ) → n ≡ length (named es (shortest es)) → each (lineOf count all labels) (take n order) ≡ Report.lines es
   unfolding Report.lines
-  lines-named n lines′ h q = q ∙ ap (λ l. over l lines) (lines-are (take n order) ∙ ap (each (Report.line es)) (front-named n h))
+  lines-named n h = lines-are (take n order) ∙ ap (each (Report.line es)) (front-named n h)
 
-  -- there is room for the lines of at most 512
+  -- at most 512 are named
   front-size : (n : ℕ) → n ≤ 512 → n ≡ length (take n order)
   front-size n h = sym (length-take-le n order (omega (arith, r .order-size)))
 
-  pub lines-fit : (n : ℕ) → n ≤ 512 → 3 * length (take n order) ≤ length lines
-  lines-fit n h = omega (arith, front-size n h, r .lines-room)
+  -- every label numbers one of them
+  pub labels-few : es ≡ take count all → Few count labels
+  labels-few is i h =
+      let m : transactions (take count all) ≤ 512 = subst (λ l. transactions l ≤ 512) is (r .few) in
+      omega (arith, m, labels-below count all labels (transactions (take count all)) (ap labelled (sym is) ∙ sym (r .labelled-are), refl, m) i h)
 
   -- Ordered: all transactions, in serial order
   module _ (t : ℕ) (is : a ≡ Ordered t) where
     none : shortest es ≡ 0
     none = found-ordered es (shortest es) t (sym is ∙ r .found-is) .0
 
-    pub all-few : t ≤ 512
+    all-few : t ≤ 512
     all-few = omega (arith, found-ordered es (shortest es) t (sym is ∙ r .found-is) .1, r .few)
 
     all-named : t ≡ length (named es (shortest es))
@@ -125,19 +116,18 @@ module _ (a : Arranged) (es all : List Event) (labels : List ℕ) (count : ℕ) 
     pub all-size : t ≡ length (take t order)
     all-size = front-size t all-few
 
-    pub trace-fits : length (each (bytesOf count all labels) (take t order)) ≤ length out
-    trace-fits = omega (arith, ap length trace-is, encoded-size (serialTrace es), trace-size es none, r .size, r .out-room)
+    pub trace-fits : length (each (bytesOf count all labels) (take t order)) ≤ 8 * count
+    trace-fits = omega (arith, ap length trace-is, encoded-size (serialTrace es), trace-size es none, r .size)
 
-    pub concluded-cooperable : (out′ lines′ : List ℕ) → out′ ≡ over (each (bytesOf count all labels) (take t order)) out
-        → lines′ ≡ over (each (lineOf count all labels) (take t order)) lines → Concluded es out lines out′ lines′ (Cooperable count t)
+    pub concluded-cooperable : (out′ : List ℕ) → out′ ≡ over (each (bytesOf count all labels) (take t order)) out → Concluded es out out′ (Cooperable count t)
     unfolding cooperable
-    concluded-cooperable out′ lines′ p q =
+    concluded-cooperable out′ p =
         let v = verdict-cooperable es none in
         record {
           answer = ap₂ (λ (x y : ℕ). record { kind = 0; first = x; second = y }) (sym (r .size)) (found-ordered es (shortest es) t (sym is ∙ r .found-is) .1)
               ∙ ap (λ x. x .answer) (sym v);
           written = p ∙ ap (λ l. over l out) (trace-is ∙ ap (λ x. x .written) (sym v));
-          told = lines-named t lines′ all-named q;
+          all-named = all-named;
         }
 
   -- Cyclic: the cycle
@@ -148,7 +138,7 @@ module _ (a : Arranged) (es all : List Event) (labels : List ℕ) (count : ℕ) 
     long : n ≡ length (cycleOf es (suc k))
     long = found-cyclic es (shortest es) k n (sym is ∙ r .found-is) .1
 
-    pub cycle-few : n ≤ 512
+    cycle-few : n ≤ 512
     cycle-few = omega (arith, long, cycle-most es (suc k), r .few)
 
     cycle-named : n ≡ length (named es (shortest es))
@@ -160,13 +150,12 @@ module _ (a : Arranged) (es all : List Event) (labels : List ℕ) (count : ℕ) 
     pub cycle-fits : 2 * length (take n order) ≤ length out
     cycle-fits = omega (arith, cycle-size, long, cycle-most es (suc k), transactions-most es, r .size, r .out-room)
 
-    pub concluded-violation : (out′ lines′ : List ℕ) → out′ ≡ over (each inTwo (take n order)) out
-        → lines′ ≡ over (each (lineOf count all labels) (take n order)) lines → Concluded es out lines out′ lines′ (Violation k n)
+    pub concluded-violation : (out′ : List ℕ) → out′ ≡ over (each inTwo (take n order)) out → Concluded es out out′ (Violation k n)
     unfolding violation
-    concluded-violation out′ lines′ p q =
+    concluded-violation out′ p =
         let v = verdict-violation es k some in
         record {
           answer = ap (λ x. record { kind = 1; first = k; second = x }) long ∙ ap (λ x. x .answer) (sym v);
           written = p ∙ ap (λ l. over l out) (ap (each inTwo) (front-named n cycle-named ∙ named-cycle es k some) ∙ ap (λ x. x .written) (sym v));
-          told = lines-named n lines′ cycle-named q;
+          all-named = cycle-named;
         }

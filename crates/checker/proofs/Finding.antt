@@ -1,7 +1,7 @@
 -- Laws of what is found in a recording before it is judged: what the arrays hold at the end, and what a caller knows of them.
 use Prim.Native.Nat.{ℕ, zero, suc, _/_, _%_, _≤_}
 use native.Mathlib.Omega.{arith}
-use mathlib.Core.Path.{_≡_, refl, sym, ap, ap₂, _∙_, subst}
+use mathlib.Core.Path.{_≡_, refl, sym, ap, ap₂, _∙_}
 use mathlib.Core.Logic.{_≢_}
 use mathlib.Core.List.{List, [], _∷_, _++_, map}
 use lib.Dec.{eqb, leb}
@@ -48,9 +48,9 @@ inputs-passed input h =
     let c2 = none-first 2 0 (leb (length input) 8192) _ (omega arith) (c1 .1) in
     record { whole = eqb-true (length input % 8) 0 (c1 .0); most = leb-true (length input) 8192 (c2 .0) }
 
-counted : (input : List ℕ) → Counted (inputChecks input)
+pub inputs-counted : (input : List ℕ) → Counted (inputChecks input)
 unfolding inputChecks
-counted input = (omega arith, (omega arith, tt))
+inputs-counted input = (omega arith, (omega arith, tt))
 
 -- they are the first of 1 to 4
 pub size-first : (input out work : List ℕ) (n : ℕ) → n ≡ firstFault (inputChecks input) → n ≢ 0 → n ≡ firstFault (sizeChecks input out work)
@@ -61,7 +61,7 @@ size-first input out work (suc n) h some = sym (first-of-both (inputChecks input
 pub size-next : (input out work : List ℕ) → firstFault (inputChecks input) ≡ 0
     → firstFault (sizeChecks input out work) ≡ firstFault (check 3 0 (leb (length input) (length out)) ∷ check 4 0 (leb workSize (length work)) ∷ [])
 unfolding inputChecks sizeChecks
-size-next input out work h = second-of-both (inputChecks input) _ (counted input) h
+size-next input out work h = second-of-both (inputChecks input) _ (inputs-counted input) h
 
 -- what has passed 1 to 4 has passed 1 and 2
 pub input-sized : (input out work : List ℕ) → firstFault (sizeChecks input out work) ≡ 0 → firstFault (inputChecks input) ≡ 0

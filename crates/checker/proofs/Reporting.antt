@@ -3,16 +3,15 @@ use Prim.Native.Nat.{ℕ, zero, suc, _-_, _/_, _≤_}
 use native.Mathlib.Omega.{arith}
 use mathlib.Core.Path.{_≡_, refl, sym, ap, ap₂, _∙_, subst}
 use mathlib.Core.Logic.{_≢_}
-use mathlib.Core.Bool.{Bool, true, false, _&&_}
+use mathlib.Core.Bool.{true, false, _&&_}
 use mathlib.Core.List.{List, [], _∷_, map}
 use lib.Dec.{leb}
 use lib.ListN.{length, take, drop, replicate, length-append, length-drop}
-use lib.Seq.{take-append-seam}
 use borrow.Author.Tests.{leb-false, le-leb}
 use Rattle.record.specs.declared.Event.{Event}
 use Rattle.record.specs.Faults.{firstFault}
 use Rattle.record.specs.Record.{event}
-use Rattle.trace.specs.Lists.{over}
+use Rattle.trace.specs.Lists.{each, over}
 use Rattle.trace.proofs.Tests.{by}
 use Rattle.graph.specs.Transactions.{Tally, none-yet, begins, full, tallied, tallyFrom, transactions, labelled}
 use Rattle.graph.specs.declared.Arranged.{Arranged}
@@ -24,16 +23,18 @@ use Rattle.checker.specs.declared.Answer.{Answer}
 use Rattle.checker.specs.declared.Answer.the-variants.{Refused}
 use Rattle.checker.specs.declared.Refusal.{Refusal}
 use Rattle.checker.specs.Verdict.{Numbers, numbers, verdict}
-use Rattle.checker.specs.Refusals.{sizeChecks, Run, start, onwards, recordChecks, Fault, noFault, firstRefusal, recordsOf, refusal, events}
+use Rattle.checker.specs.Refusals.{sizeChecks, Run, start, onwards, recordChecks, firstRefusal, recordsOf, refusal, events}
 use Rattle.checker.specs.Judged.{Judged, judged}
 use Rattle.checker.specs.declared.Examined.{Examined}
 use Rattle.checker.specs.Examined.{Examination, examined, asFault}
-use Rattle.checker.specs.Concluded.{Ready, Concluded}
+use Rattle.checker.specs.Writing.{lineOf}
+use Rattle.checker.specs.Concluded.{Ready, Concluded, namedIn, Told}
 use Rattle.checker.specs.Report.{reported}
 use Rattle.checker.specs.Report.{lines as lines-of}
 use Rattle.checker.proofs.Refusing.{Sized, sized, size-passed, refusal-on, refusal-at}
 use Rattle.checker.proofs.Looked.{parts-passed}
-use Rattle.checker.proofs.Ending.{named-serial, named-cycle}
+use Rattle.checker.proofs.Written.{over-front}
+use Rattle.checker.proofs.Ending.{named-serial, named-cycle, lines-named, labels-few}
 use Rattle.checker.proofs.Finding.{events-size, input-passed, input-sized, Found, found-refused}
 use Rattle.checker.proofs.Finding.{found as found-in}
 
@@ -63,16 +64,33 @@ module _ (input out work : List ℕ) where
           ap (λ m. left (record { kind = 2; first = m; second = r .«record» }) out work) q
           ∙ sym (judged-at n (r .«record») (h ∙ ap (λ m. record { number = m; place = r .«record» }) q))
 
-  pub reported-refused : (old : List ℕ) (n k : ℕ) → refusal input out work ≡ record { number = n; place = k } → n ≢ 0 → old ≡ reported input out work old
+  reported-refused : (old : List ℕ) (n k : ℕ) → refusal input out work ≡ record { number = n; place = k } → n ≢ 0 → old ≡ reported input out work old
   reported-refused old zero k h some = absurd (some refl)
   reported-refused old (suc n) k h some = sym (reported-at old n k h)
 
-  pub judged-passed : (a : Numbers) (o w : List ℕ) → refusal input out work .number ≡ 0 → a ≡ verdict (events input) .answer
+  -- nothing is named
+  pub told-refused : (r : Refusal) (all : List Event) (labels order : List ℕ) → refusal input out work ≡ record { number = r .number; place = r .«record» } → r .number ≢ 0
+      → length order ≡ 512 → Told input out work (Refused r) all labels order
+  unfolding each over
+  told-refused r all labels order h some long =
+      record {
+        lines-are = λ old. reported-refused old (r .number) (r .«record») h some;
+        order-size = long;
+        named-few = omega arith;
+        most = λ n. absurd (omega arith);
+        few = λ n. absurd (omega arith);
+      }
+
+  pub told-none : (r : Answer) (all : List Event) (labels order old : List ℕ) → Told input out work r all labels order → namedIn r ≡ 0 → old ≡ reported input out work old
+  unfolding each over
+  told-none r all labels order old t h = ap (λ n. over (each (lineOf (length input / 8) all labels) (take n order)) old) (sym h) ∙ t .lines-are old
+
+  judged-passed : (a : Numbers) (o w : List ℕ) → refusal input out work .number ≡ 0 → a ≡ verdict (events input) .answer
       → o ≡ over (verdict (events input) .written) out → w ≡ over (replicate workSize 0) work → left a o w ≡ judged input out work
   unfolding judged
   judged-passed a o w h p q r = sym (rw (h, judged, p, q, r))
 
-  pub reported-passed : (old : List ℕ) → refusal input out work .number ≡ 0 → over (lines-of (events input)) old ≡ reported input out work old
+  reported-passed : (old : List ℕ) → refusal input out work .number ≡ 0 → over (lines-of (events input)) old ≡ reported input out work old
   unfolding reported
   reported-passed old h = sym (rw (h, reported))
 
@@ -117,10 +135,6 @@ named-most es = go (shortest es) refl
     go zero h = omega (arith, ap length (named-serial es h), order-size es h)
     go (suc k) h = omega (arith, ap length (named-cycle es k h), cycle-most es (suc k))
 
-over-front : (new old : List ℕ) → take (length new) (over new old) ≡ new
-unfolding over
-over-front new old = take-append-seam new (drop (length new) old)
-
 over-size : (new old : List ℕ) → length new ≤ length old → length (over new old) ≡ length old
 unfolding over
 over-size new old h =
@@ -158,31 +172,39 @@ module _ (input out work : List ℕ) (passed : firstFault (sizeChecks input out 
       order-now : o ≡ over (named es (shortest es)) order
       order-now = ap (λ x. x .order) whole
 
-      pub order-long : length o ≡ 512
+      order-long : length o ≡ 512
       order-long =
           let short : length (named es (shortest es)) ≤ length order = omega (arith, named-most es, at-most, long) in
           ap length order-now ∙ over-size (named es (shortest es)) order short ∙ long
 
-      pub ready : (lines : List ℕ) → 1536 ≤ length lines → es ≡ take (length input / 8) (e .all) → Ready a es (e .all) labels (length input / 8) o out lines
-      ready lines room same =
-          let s : Sized input out work = sized input out work passed in
-          let n : length es ≡ length input / 8 = ap length is ∙ events-size input in
-          record {
-            size = n;
-            most = omega (arith, s .most);
-            labelled-are = all-found .labelled-are ∙ ap labelled (sym is);
-            few = at-most;
-            found-is = ap (λ x. x .answer) whole;
-            order-size = omega (arith, order-long);
-            order-is = ap (take (length (named es (shortest es)))) order-now ∙ over-front (named es (shortest es)) order;
-            out-room = omega (arith, s .out-room);
-            lines-room = room;
-          }
+      module _ (same : es ≡ take (length input / 8) (e .all)) where
+        pub ready : Ready a es (e .all) labels (length input / 8) o out
+        ready =
+            let s : Sized input out work = sized input out work passed in
+            record {
+              size = ap length is ∙ events-size input;
+              most = omega (arith, s .most);
+              labelled-are = all-found .labelled-are ∙ ap labelled (sym is);
+              few = at-most;
+              found-is = ap (λ x. x .answer) whole;
+              order-size = omega (arith, order-long);
+              order-is = ap (take (length (named es (shortest es)))) order-now ∙ over-front (named es (shortest es)) order;
+              out-room = omega (arith, s .out-room);
+            }
 
-      pub judged-whole : (lines out′ lines′ : List ℕ) (r : Answer) → Concluded es out lines out′ lines′ r
-          → (left (numbers r) out′ w ≡ judged input out work) × (lines′ ≡ reported input out work lines)
-      judged-whole lines out′ lines′ r c = (
-        judged-passed input out work (numbers r) out′ w no-refusal (c .answer ∙ ap (λ l. verdict l .answer) is) (c .written ∙ ap (λ l. over (verdict l .written) out) is)
-            (ap (λ x. x .work) whole),
-        c .told ∙ ap (λ l. over (lines-of l) lines) is ∙ reported-passed input out work lines no-refusal,
-      )
+        pub judged-whole : (out′ : List ℕ) (r : Answer) → Concluded es out out′ r → left (numbers r) out′ w ≡ judged input out work
+        judged-whole out′ r c =
+            judged-passed input out work (numbers r) out′ w no-refusal (c .answer ∙ ap (λ l. verdict l .answer) is) (c .written ∙ ap (λ l. over (verdict l .written) out) is)
+            (ap (λ x. x .work) whole)
+
+        pub told-whole : (out′ : List ℕ) (r : Answer) → Concluded es out out′ r → Told input out work r (e .all) labels o
+        told-whole out′ r c =
+            record {
+              lines-are = λ old.
+                  ap (λ l. over l old) (lines-named a es (e .all) labels (length input / 8) o out ready (namedIn r) (c .all-named) ∙ ap lines-of is)
+                  ∙ reported-passed input out work old no-refusal;
+              order-size = order-long;
+              named-few = omega (arith, c .all-named, named-most es, at-most);
+              most = λ some. ready .most;
+              few = λ some. labels-few a es (e .all) labels (length input / 8) o out ready same;
+            }

@@ -4,8 +4,8 @@ use native.Mathlib.Omega.{arith}
 use native.Mathlib.Numerals.{add-one}
 use mathlib.Core.Path.{_≡_, refl, sym, ap, ap₂, _∙_, subst}
 use mathlib.Core.Logic.{_≢_}
-use mathlib.Core.List.{List, [], _∷_, _++_, map, append-assoc, append-nil}
-use lib.ListN.{length, getD, set, take, drop, replicate, length-drop}
+use mathlib.Core.List.{List, [], _∷_, _++_, map, append-assoc}
+use lib.ListN.{length, set, take, drop, replicate, length-drop}
 use lib.Seq.{length-take-le, take-suc-set, drop-drop, drop-set-lt, getD-set-same, getD-set-other}
 use Rattle.record.specs.declared.Event.{Event}
 use Rattle.record.specs.Faults.{firstFault}
@@ -13,10 +13,9 @@ use Rattle.record.specs.Record.{event}
 use Rattle.replay.specs.declared.State.{State}
 use Rattle.replay.specs.Machine.{fresh}
 use Rattle.graph.specs.Transactions.{none-yet, Labelled, belongs, tallied, labelledFrom, labelled}
-use Rattle.graph.specs.Engine.{pastEnd, labelledAs, recordAt, held}
-use Rattle.checker.specs.declared.examining.Seen.{Seen}
+use Rattle.graph.specs.Engine.{pastEnd, labelledAs, held}
 use Rattle.checker.specs.declared.examining.Seen.the-variants.{Sound, Faulty}
-use Rattle.checker.specs.Refusals.{Run, start, onwards, recordChecks, records, recordsOf, Fault, noFault, firstRefusal, events}
+use Rattle.checker.specs.Refusals.{Run, start, onwards, recordChecks, records, recordsOf, noFault, firstRefusal, events}
 use Rattle.checker.specs.Seeing.{runOf, Saw}
 use Rattle.checker.specs.Examined.{noEvent}
 use Rattle.checker.proofs.Refusing.{refusal-on, refusal-at}

@@ -1,27 +1,22 @@
 -- Laws of what is written: piece after piece, and into the rest of an output.
-use Prim.Native.Nat.{ℕ, zero, suc, _+_, _*_, _-_, _≤_, _<_}
+use Prim.Native.Nat.{ℕ, suc, _+_, _*_, _-_, _≤_, _<_}
 use native.Mathlib.Omega.{arith}
 use native.Mathlib.Nat.{add-zero, zero-add, add-comm, mul-suc, mul-zero}
 use native.Mathlib.Numerals.{add-one}
 use mathlib.Core.Path.{_≡_, refl, sym, ap, ap₂, _∙_, subst}
-use mathlib.Core.Logic.{_≢_}
-use mathlib.Core.Bool.{Bool, true, false}
 use mathlib.Core.List.{List, [], _∷_, _++_, append-assoc, append-nil}
-use lib.Dec.{eqb}
-use lib.ListN.{length, getD, set, take, drop, length-append, length-take, length-drop, take-append-drop, drop-of-length-le}
-use lib.Seq.{take-all, drop-drop, drop-cons, drop-length, length-take-le, take-at, drop-append-add, sets-eq}
-use borrow.Author.Tests.{eq-eqb, ne-eqb}
+use lib.ListN.{length, getD, set, take, drop, length-append, length-drop, take-append-drop, drop-of-length-le}
+use lib.Seq.{set-split, take-all, take-append-seam, drop-drop, drop-cons, length-take-le, take-at, drop-append-add, sets-eq}
 use borrow.Rule.Slice.PartMut.{putMid}
 use Rattle.record.specs.declared.Event.{Event}
-use Rattle.record.specs.Record.{encoded, encodedOver, encodedSize, inTwo}
+use Rattle.record.specs.Record.{encoded, encodedOver, encodedSize}
 use Rattle.record.proofs.Laws.{encoded-over, size-over, length-encoded}
 use Rattle.trace.specs.Lists.{each, over}
-use Rattle.graph.specs.Transactions.{Labelled}
-use Rattle.graph.specs.Serial.{eventsOf, threadOf}
-use Rattle.graph.specs.Engine.{pastEnd, recordAt, held}
-use Rattle.graph.proofs.Held.{length-held, held-at}
+use Rattle.trace.proofs.Lists.{each-append}
+use Rattle.graph.specs.Serial.{threadOf}
+use Rattle.graph.specs.Engine.{held}
 use Rattle.checker.specs.Report.{firstRecord}
-use Rattle.checker.specs.Writing.{writtenAt, bytesOf, lineOf}
+use Rattle.checker.specs.Writing.{writtenAt, lineOf}
 
 -- ---- Written from a place on
 
@@ -64,6 +59,11 @@ written-more l n new more h =
     ap₂ (λ (x y : List ℕ). x ++ (more ++ y)) t d
     ∙ append-assoc (take n l) new (more ++ last)
     ∙ ap (λ x. take n l ++ x) (sym (append-assoc new more last))
+
+-- what was written over a list stands at its front
+pub over-front : (new old : List ℕ) → take (length new) (over new old) ≡ new
+unfolding over
+over-front new old = take-append-seam new (drop (length new) old)
 
 -- Writing under way: of the whole, to be written from place n of out₀ on, the rest is still to be written, from place end of out on
 pub record Left (out₀ : List ℕ) (n : ℕ) (whole : List ℕ) (out : List ℕ) (end : ℕ) (rest : List ℕ) : Type 0 where
@@ -123,6 +123,10 @@ module _ (e : Event) (out : List ℕ) (n : ℕ) (room : n + length (encoded e) �
       simp (q, none, append-nil)
 
 -- numbers stored one after the other
+pub one-store : (l : List ℕ) (i a : ℕ) → i < length l → set l i a ≡ writtenAt l i (a ∷ [])
+unfolding writtenAt
+one-store l i a h = set-split l i a h ∙ ap (λ k. take i l ++ a ∷ drop k l) (sym (add-one i))
+
 pub two-stores : (l : List ℕ) (i a b : ℕ) → i + 2 ≤ length l → set (set l i a) (i + 1) b ≡ writtenAt l i (a ∷ b ∷ [])
 unfolding writtenAt
 two-stores l i a b h =
@@ -170,9 +174,18 @@ module _ (f : ℕ → List ℕ) (l out₀ : List ℕ) where
       subst (Going f l out₀ out′ end′) (sym (add-one k))
       (left-more out₀ 0 (each f l) out end (f (getD l k 0)) (eachFrom f (suc k) l) out′ end′ (omega arith) (subst (Left out₀ 0 (each f l) out end) (each-next k h) g) p q)
 
+  pub going-place : (out : List ℕ) (end k : ℕ) → length l ≤ k → Going f l out₀ out end k → end ≡ length (each f l)
+  going-place out end k h g =
+      left-place out₀ 0 (each f l) out end (subst (Left out₀ 0 (each f l) out end) (each-none k h) g) ∙ zero-add (length (each f l))
+
   pub going-end : (out : List ℕ) (end k : ℕ) → length l ≤ k → Going f l out₀ out end k → out ≡ over (each f l) out₀
   going-end out end k h g =
       left-made out₀ 0 (each f l) out end (subst (Left out₀ 0 (each f l) out end) (each-none k h) g) ∙ written-start out₀ (each f l)
+
+pub each-each : {A B C : Type 0} (f : B → List C) (g : A → List B) (l : List A) → each (λ x. each f (g x)) l ≡ each f (each g l)
+unfolding each
+each-each f g [] = refl
+each-each f g (x ∷ l) = ap (λ r. each f (g x) ++ r) (each-each f g l) ∙ sym (each-append f (g x) (each g l))
 
 pub length-each : (f : ℕ → List ℕ) (w : ℕ) → ((a : ℕ) → length (f a) ≡ w) → (l : List ℕ) → length (each f l) ≡ w * length l
 unfolding each
@@ -192,101 +205,3 @@ pub line-stored : (n : ℕ) (all : List Event) (labels : List ℕ) (a t f : ℕ)
     → set (set (set l i a) (i + 1) t) (i + 2) f ≡ writtenAt l i (lineOf n all labels a)
 unfolding lineOf
 line-stored n all labels a t f l i h p q = three-stores l i a t f h ∙ ap₂ (λ (x y : ℕ). writtenAt l i (a ∷ x ∷ y ∷ [])) p q
-
--- ---- The records of a transaction
-
--- the bytes of those from record i on
-unfoldable pub bytesFrom : ℕ → ℕ → List Event → List ℕ → ℕ → List ℕ
-bytesFrom i n all labels a = each encoded (eventsOf (drop i (held n all labels)) a)
-
-events-hit : (x : Labelled) (xs : List Labelled) (a : ℕ) → eqb (x .transaction) a ≡ true → eventsOf (x ∷ xs) a ≡ x .event ∷ eventsOf xs a
-unfolding eventsOf
-events-hit x xs a h = rw (h, eventsOf)
-
-events-miss : (x : Labelled) (xs : List Labelled) (a : ℕ) → eqb (x .transaction) a ≡ false → eventsOf (x ∷ xs) a ≡ eventsOf xs a
-unfolding eventsOf
-events-miss x xs a h = rw (h, eventsOf)
-
-held-next : (i n : ℕ) (all : List Event) (labels : List ℕ) → i < n → drop i (held n all labels) ≡ recordAt all labels i ∷ drop (suc i) (held n all labels)
-held-next i n all labels h =
-    let d : Labelled = recordAt all labels i in
-    drop-cons (held n all labels) i d (subst (λ m. i < m) (sym (length-held n all labels)) h)
-    ∙ ap (λ x. x ∷ drop (suc i) (held n all labels)) (held-at i n all labels d h)
-
-pub bytes-all : (n : ℕ) (all : List Event) (labels : List ℕ) (a : ℕ) → bytesFrom 0 n all labels a ≡ bytesOf n all labels a
-unfolding bytesFrom bytesOf
-bytes-all n all labels a = refl
-
-pub bytes-hit : (i n : ℕ) (all : List Event) (labels : List ℕ) (a : ℕ) → i < n → getD labels i 0 ≡ a
-    → bytesFrom i n all labels a ≡ encoded (getD all i pastEnd) ++ bytesFrom (suc i) n all labels a
-unfolding bytesFrom each
-bytes-hit i n all labels a h q =
-    ap (λ xs. each encoded (eventsOf xs a)) (held-next i n all labels h)
-    ∙ ap (each encoded) (events-hit (recordAt all labels i) (drop (suc i) (held n all labels)) a (eq-eqb (getD labels i 0) a q))
-
-pub bytes-miss : (i n : ℕ) (all : List Event) (labels : List ℕ) (a : ℕ) → i < n → getD labels i 0 ≢ a
-    → bytesFrom i n all labels a ≡ bytesFrom (suc i) n all labels a
-unfolding bytesFrom
-bytes-miss i n all labels a h q =
-    ap (λ xs. each encoded (eventsOf xs a)) (held-next i n all labels h)
-    ∙ ap (each encoded) (events-miss (recordAt all labels i) (drop (suc i) (held n all labels)) a (ne-eqb (getD labels i 0) a q))
-
-pub bytes-none : (i n : ℕ) (all : List Event) (labels : List ℕ) (a : ℕ) → n ≤ i → bytesFrom i n all labels a ≡ []
-unfolding bytesFrom each eventsOf
-bytes-none i n all labels a h =
-    ap (λ xs. each encoded (eventsOf xs a)) (drop-of-length-le (held n all labels) (subst (λ m. m ≤ i) (sym (length-held n all labels)) h))
-
--- ---- Where a transaction begins
-
-thread-hit : (x : Labelled) (xs : List Labelled) (a : ℕ) → eqb (x .transaction) a ≡ true → threadOf (x ∷ xs) a ≡ x .event .thread
-unfolding threadOf
-thread-hit x xs a h = rw (h, threadOf)
-
-thread-miss : (x : Labelled) (xs : List Labelled) (a : ℕ) → eqb (x .transaction) a ≡ false → threadOf (x ∷ xs) a ≡ threadOf xs a
-unfolding threadOf
-thread-miss x xs a h = rw (h, threadOf)
-
-first-hit : (k : ℕ) (x : Labelled) (xs : List Labelled) (a : ℕ) → eqb (x .transaction) a ≡ true → firstRecord k (x ∷ xs) a ≡ k
-unfolding firstRecord
-first-hit k x xs a h = rw (h, firstRecord)
-
-first-miss : (k : ℕ) (x : Labelled) (xs : List Labelled) (a : ℕ) → eqb (x .transaction) a ≡ false → firstRecord k (x ∷ xs) a ≡ firstRecord (suc k) xs a
-unfolding firstRecord
-first-miss k x xs a h = rw (h, firstRecord)
-
--- transaction a, among the first n records that arrays hold, has this thread and first record
-pub record Sought (n : ℕ) (all : List Event) (labels : List ℕ) (a thread place : ℕ) : Type 0 where
-  pub thread-is : threadOf (held n all labels) a ≡ thread
-  pub place-is : firstRecord 0 (held n all labels) a ≡ place
-
--- it is to be found from record i on
-abbrev pub Unmet : ℕ → List Event → List ℕ → ℕ → ℕ → Type 0
-Unmet n all labels a i = Sought n all labels a (threadOf (drop i (held n all labels)) a) (firstRecord i (drop i (held n all labels)) a)
-
-module _ (n : ℕ) (all : List Event) (labels : List ℕ) (a : ℕ) where
-  pub unmet-start : Unmet n all labels a 0
-  unmet-start = record { thread-is = refl; place-is = refl }
-
-  pub unmet-hit : (i : ℕ) → i < n → getD labels i 0 ≡ a → Unmet n all labels a i → Sought n all labels a (getD all i pastEnd .thread) i
-  unmet-hit i h q u =
-      let t : eqb (getD labels i 0) a ≡ true = eq-eqb (getD labels i 0) a q in
-      let xs : List Labelled = drop (suc i) (held n all labels) in
-      record {
-        thread-is = u .thread-is ∙ ap (λ l. threadOf l a) (held-next i n all labels h) ∙ thread-hit (recordAt all labels i) xs a t;
-        place-is = u .place-is ∙ ap (λ l. firstRecord i l a) (held-next i n all labels h) ∙ first-hit i (recordAt all labels i) xs a t;
-      }
-
-  pub unmet-miss : (i : ℕ) → i < n → getD labels i 0 ≢ a → Unmet n all labels a i → Unmet n all labels a (suc i)
-  unmet-miss i h q u =
-      let t : eqb (getD labels i 0) a ≡ false = ne-eqb (getD labels i 0) a q in
-      let xs : List Labelled = drop (suc i) (held n all labels) in
-      record {
-        thread-is = u .thread-is ∙ ap (λ l. threadOf l a) (held-next i n all labels h) ∙ thread-miss (recordAt all labels i) xs a t;
-        place-is = u .place-is ∙ ap (λ l. firstRecord i l a) (held-next i n all labels h) ∙ first-miss i (recordAt all labels i) xs a t;
-      }
-
-  pub unmet-none : (i : ℕ) → n ≤ i → Unmet n all labels a i → Sought n all labels a 0 0
-  unfolding threadOf firstRecord
-  unmet-none i h u =
-      let none : drop i (held n all labels) ≡ [] = drop-of-length-le (held n all labels) (subst (λ m. m ≤ i) (sym (length-held n all labels)) h) in
-      record { thread-is = u .thread-is ∙ ap (λ l. threadOf l a) none; place-is = u .place-is ∙ ap (λ l. firstRecord i l a) none }

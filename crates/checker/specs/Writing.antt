@@ -1,12 +1,15 @@
 -- What the checker's private functions promise one another about what they write.
 -- A reader of the public promise need not read this.
-use Prim.Native.Nat.{ℕ, _+_}
+use Prim.Native.Nat.{ℕ, zero, suc, _+_, _-_, _<_}
+use mathlib.Core.Path.{_≡_}
+use mathlib.Core.Bool.{true, false}
 use mathlib.Core.List.{List, [], _∷_, _++_}
-use lib.ListN.{length, take, drop}
+use lib.Dec.{eqb, ltb}
+use lib.ListN.{length, getD, take, drop}
 use Rattle.record.specs.declared.Event.{Event}
 use Rattle.record.specs.Record.{encoded}
-use Rattle.trace.specs.Lists.{each}
-use Rattle.graph.specs.Engine.{held}
+use Rattle.trace.specs.Lists.{each, keep, firstOf, from}
+use Rattle.graph.specs.Engine.{pastEnd, held}
 use Rattle.graph.specs.Serial.{eventsOf, threadOf}
 use Rattle.checker.specs.Report.{firstRecord}
 
@@ -21,3 +24,34 @@ bytesOf n all labels a = each encoded (eventsOf (held n all labels) a)
 -- a transaction's line, among the first n records that arrays hold: its number, its thread, its first record
 unfoldable pub lineOf : ℕ → List Event → List ℕ → ℕ → List ℕ
 lineOf n all labels a = a ∷ threadOf (held n all labels) a ∷ firstRecord 0 (held n all labels) a ∷ []
+
+-- ---- The records by number, linked
+
+-- the bytes of record i
+abbrev pub bytesAt : List Event → ℕ → List ℕ
+bytesAt all i = encoded (getD all i pastEnd)
+
+-- the numbers of the records of transaction a from record i on, of the first n
+unfoldable pub numbersFrom : ℕ → List ℕ → ℕ → ℕ → List ℕ
+numbersFrom n labels a i = keep (λ j. eqb (getD labels j 0) a) (from i (n - i))
+
+abbrev pub numbersOf : ℕ → List ℕ → ℕ → List ℕ
+numbersOf n labels a = numbersFrom n labels a 0
+
+-- what stands where there is no record
+abbrev pub noRecord : ℕ
+noRecord = 1024
+
+-- the first of these numbers
+unfoldable pub firstFrom : ℕ → List ℕ → ℕ → ℕ → ℕ
+firstFrom n labels a i = firstOf (λ j. eqb (getD labels j 0) a) noRecord (from i (n - i))
+
+-- Arrays that link the first n records: each transaction's first, and after each record the next of its transaction
+pub record Linked (n : ℕ) (labels firsts nexts : List ℕ) : Type 0 where
+  pub first-is : (a : ℕ) → getD firsts a noRecord ≡ firstFrom n labels a 0
+  pub next-is : (i : ℕ) → i < n → getD nexts i 0 ≡ firstFrom n labels (getD labels i 0) (suc i)
+
+-- record i, the next after it, and so on, at most k
+unfoldable pub chain : List ℕ → ℕ → ℕ → List ℕ
+chain nexts zero i = []
+chain nexts (suc k) i = elim (ltb i noRecord) [ true ↦ i ∷ chain nexts k (getD nexts i 0) | false ↦ [] ]

@@ -4,10 +4,28 @@ use crate::Refusal;
 use crate::writing;
 use graph::Arranged;
 use record::Event;
+ghost use mathlib.Core.Path.{_≡_};
 ghost use lib.ListN.{take};
-ghost use Rattle.checker.specs.Concluded.{Ready, Concluded};
+ghost use Rattle.checker.specs.Concluded.{Ready, Concluded, namedIn};
 
-// Writes the serial trace or the cycle, and the lines. `Unfit` is never found here.
+// An answer, and the events that it is of.
+pub struct Judgement {
+    pub answer: Answer,
+    pub all: [Event; 1024],
+}
+
+// How many transactions an answer names.
+pub fn named(answer: Answer) -> usize
+    ensures { λ r. ⌜ r ≡ namedIn answer ⌝ }
+{
+    match answer {
+        Answer::Cooperable { transactions, .. } => transactions,
+        Answer::Violation { length, .. } => length,
+        Answer::Refused(_) => 0,
+    }
+}
+
+// Writes the serial trace or the cycle. `Unfit` is never found here.
 pub fn conclude(
     found: Arranged,
     all: [Event; 1024],
@@ -15,25 +33,21 @@ pub fn conclude(
     count: usize,
     order: &[u16],
     out: &mut [u8],
-    lines: &mut [u16],
 ) -> Answer
-    requires { ⌜ Ready found (take count all) all (now labels) count (now order) (now out) (now lines) ⌝ }
-    ensures { λ r. ⌜ Concluded (take count all) (now (out .entry)) (now (lines .entry)) (now (out .exit)) (now (lines .exit)) r ⌝ }
+    requires { ⌜ Ready found (take count all) all (now labels) count (now order) (now out) ⌝ }
+    ensures { λ r. ⌜ Concluded (take count all) (now (out .entry)) (now (out .exit)) r ⌝ }
 {
     match found {
         Arranged::Ordered { transactions } => {
             let serial = &order[..transactions];
             writing::write_serial(all, labels, count, serial, out);
-            writing::write_lines(all, labels, count, serial, lines);
             Answer::Cooperable {
                 records: count,
                 transactions,
             }
         }
         Arranged::Cyclic { record, length } => {
-            let cycle = &order[..length];
-            writing::write_cycle(cycle, out);
-            writing::write_lines(all, labels, count, cycle, lines);
+            writing::write_cycle(&order[..length], out);
             Answer::Violation { record, length }
         }
         Arranged::Unfit => Answer::Refused(Refusal {

@@ -3,13 +3,18 @@ mod concluding;
 mod examining;
 mod writing;
 
+use concluding::Judgement;
+use graph::Arranged;
 use record::Event;
 ghost use mathlib.Core.Path.{_≡_};
+ghost use lib.ListN.{length, take};
 ghost use Rattle.record.specs.Faults.{firstFault};
+ghost use Rattle.graph.specs.Arranged.{Arrangement, arranged};
 ghost use Rattle.checker.specs.Refusals.{sizeChecks};
 ghost use Rattle.checker.specs.Verdict.{numbers};
 ghost use Rattle.checker.specs.Judged.{Judged, judged};
 ghost use Rattle.checker.specs.Report.{reported};
+ghost use Rattle.checker.specs.Concluded.{Told};
 ghost use Rattle.checker.specs.Examined.{inputChecks, Examination, examined, asFault};
 
 // Why a recording is refused: the number, and the record that it is given at.
@@ -75,27 +80,64 @@ fn size_fault(input: &[u8], out: &[u8], work: &[u64]) -> u8
     0
 }
 
+// Arranges the first count of the events, as `graph::arrange` says: the one place where an engine is asked.
+fn arrange(all: [Event; 1024], count: usize, order: &mut [u16; 512], work: &mut [u64]) -> Arranged
+    ensures { λ r. ⌜ _≡_ {A = Arrangement} (record { answer = r; order = now (order .exit); work = now (work .exit) })
+        (arranged (take count all) (now (order .entry)) (now (work .entry))) ⌝ }
+{
+    graph::arrange(all, count, order, work)
+}
+
+// Judges a recording. `labels` then has the transaction of each record, and the front of `order` those that the answer names.
+fn judge_with(
+    input: &[u8],
+    out: &mut [u8],
+    work: &mut [u64],
+    labels: &mut [u16; 1024],
+    order: &mut [u16; 512],
+) -> Judgement
+    requires { ⌜ length (now order) ≡ 512 ⌝ }
+    ensures { λ r. ⌜ (_≡_ {A = Judged} (record { answer = numbers (r .answer); out = now (out .exit); work = now (work .exit) })
+        (judged (now (input .entry)) (now (out .entry)) (now (work .entry))))
+        × Told (now (input .entry)) (now (out .entry)) (now (work .entry)) (r .answer) (r .all) (now (labels .exit)) (now (order .exit)) ⌝ }
+{
+    let number = size_fault(input, &*out, &*work);
+    if number != 0 {
+        let all = examining::no_events();
+        let answer = Answer::Refused(Refusal { number, record: 0 });
+        return Judgement { answer, all };
+    }
+    let examined = examine(input, labels);
+    let all = examined.all;
+    let refusal = examined.refusal;
+    if refusal.number != 0 {
+        let answer = Answer::Refused(refusal);
+        return Judgement { answer, all };
+    }
+    let count = input.len() / 8;
+    let found = arrange(all, count, order, work);
+    let answer = concluding::conclude(found, all, &*labels, count, &*order, out);
+    Judgement { answer, all }
+}
+
 // Judges a recording as `judge` does, and tells each transaction that the answer names: three numbers, in serial order or cycle order.
 pub fn report(input: &[u8], out: &mut [u8], work: &mut [u64], lines: &mut [u16; 1536]) -> Answer
     ensures { λ r. ⌜ (_≡_ {A = Judged} (record { answer = numbers r; out = now (out .exit); work = now (work .exit) })
         (judged (now (input .entry)) (now (out .entry)) (now (work .entry))))
         × (now (lines .exit) ≡ reported (now (input .entry)) (now (out .entry)) (now (work .entry)) (now (lines .entry))) ⌝ }
 {
-    let number = size_fault(input, &*out, &*work);
-    if number != 0 {
-        return Answer::Refused(Refusal { number, record: 0 });
-    }
     let mut labels = [0u16; 1024];
-    let examined = examine(input, &mut labels);
-    let refusal = examined.refusal;
-    if refusal.number != 0 {
-        return Answer::Refused(refusal);
-    }
-    let all = examined.all;
-    let count = input.len() / 8;
     let mut order = [0u16; 512];
-    let found = graph::arrange(all, count, &mut order, work);
-    concluding::conclude(found, all, &labels, count, &order, out, lines)
+    let judgement = judge_with(input, out, work, &mut labels, &mut order);
+    let answer = judgement.answer;
+    let named = concluding::named(answer);
+    if named == 0 {
+        return answer;
+    }
+    let all = judgement.all;
+    let count = input.len() / 8;
+    writing::write_lines(all, &labels, count, &order[..named], lines);
+    answer
 }
 
 // Judges a recording: the answer, the output and the work area at the end.
@@ -103,6 +145,8 @@ pub fn judge(input: &[u8], out: &mut [u8], work: &mut [u64]) -> Answer
     ensures { λ r. ⌜ _≡_ {A = Judged} (record { answer = numbers r; out = now (out .exit); work = now (work .exit) })
         (judged (now (input .entry)) (now (out .entry)) (now (work .entry))) ⌝ }
 {
-    let mut lines = [0u16; 1536];
-    report(input, out, work, &mut lines)
+    let mut labels = [0u16; 1024];
+    let mut order = [0u16; 512];
+    let judgement = judge_with(input, out, work, &mut labels, &mut order);
+    judgement.answer
 }

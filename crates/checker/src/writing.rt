@@ -1,37 +1,88 @@
-// What is written for an answer: the serial trace, or the cycle.
+// What is written for an answer: the serial trace, or the cycle; and the lines.
 use record::Event;
-ghost use Prim.Native.Nat.{_+_, _*_, _≤_};
+ghost use Prim.Native.Nat.{ℕ, _+_, _*_, _-_, _<_, _≤_};
 ghost use mathlib.Core.Path.{_≡_};
-ghost use lib.ListN.{length};
+ghost use lib.ListN.{length, getD};
 ghost use Rattle.record.specs.Record.{inTwo};
 ghost use Rattle.trace.specs.Lists.{each, over};
-ghost use Rattle.graph.specs.Engine.{held};
-ghost use Rattle.graph.specs.Serial.{threadOf};
-ghost use Rattle.checker.specs.Report.{firstRecord};
-ghost use Rattle.checker.specs.Writing.{writtenAt, bytesOf, lineOf};
+ghost use Rattle.graph.specs.Engine.{Few};
+ghost use Rattle.checker.specs.Writing.{writtenAt, bytesOf, lineOf, noRecord, numbersOf, Linked, chain, bytesAt};
 
-// Writes the records of transaction `a`, in recording order, after the `n` bytes already written; how many are then.
-pub fn write_transaction(
-    all: [Event; 1024],
-    labels: &[u16; 1024],
-    count: usize,
-    a: u16,
-    out: &mut [u8],
-    n: usize,
-) -> usize
-    requires { ⌜ (count ≤ 1024) × (n + length (bytesOf count all (now labels) a) ≤ length (now out)) ⌝ }
-    ensures { λ r. ⌜ (r ≡ n + length (bytesOf count all (now (labels .entry)) a))
-        × (now (out .exit) ≡ writtenAt (now (out .entry)) n (bytesOf count all (now (labels .entry)) a)) ⌝ }
+// Links the records, the last first: for each transaction its first record, and for each record the next of its transaction. 1,024 is none.
+fn link(labels: &[u16], count: usize, firsts: &mut [u16], nexts: &mut [u16])
+    requires { ⌜ (count ≤ 1024) × (count ≤ length (now labels)) × (512 ≤ length (now firsts)) × (count ≤ length (now nexts)) ⌝ }
+    requires { ⌜ Few count (now labels) × ((a : ℕ) → getD (now firsts) a noRecord ≡ noRecord) ⌝ }
+    ensures { λ _. ⌜ Linked count (now (labels .entry)) (now (firsts .exit)) (now (nexts .exit)) ⌝ }
+{
+    let mut i = count;
+    while 0 < i {
+        i -= 1;
+        let a = labels[i] as usize;
+        nexts[i] = firsts[a];
+        firsts[a] = i as u16;
+    }
+}
+
+// The first record of transaction `a`; 1,024 where there is none.
+fn first_of(firsts: &[u16], a: u16) -> u16
+    ensures { λ r. ⌜ r ≡ getD (now (firsts .entry)) a noRecord ⌝ }
+{
+    let at = a as usize;
+    if at < firsts.len() {
+        return firsts[at];
+    }
+    1024
+}
+
+// Writes the number `first`, the next record's, and so on, after the `n` numbers already written, as far as there is room; how many are then.
+fn append_chain(nexts: &[u16], first: u16, sequence: &mut [u16], n: usize) -> usize
+    requires { ⌜ (1024 ≤ length (now nexts)) × (n ≤ length (now sequence)) ⌝ }
+    ensures { λ r. ⌜ (let new = chain (now (nexts .entry)) (length (now (sequence .entry)) - n) first in
+        (r ≡ n + length new) × (now (sequence .exit) ≡ writtenAt (now (sequence .entry)) n new)) ⌝ }
 {
     let mut end = n;
-    let mut i = 0;
-    while i < count {
-        if labels[i] == a {
-            end += record::encode(all[i], &mut out[end..]);
+    let mut i = first;
+    while end < sequence.len() {
+        if 1024 <= i {
+            return end;
         }
-        i += 1;
+        sequence[end] = i;
+        end += 1;
+        i = nexts[i as usize];
     }
     end
+}
+
+// Writes the numbers of the records of the transactions of `order`, one transaction after the other; how many that were.
+fn line_up(labels: &[u16], count: usize, order: &[u16], sequence: &mut [u16]) -> usize
+    requires { ⌜ (count ≤ 1024) × (count ≤ length (now labels)) × Few count (now labels) ⌝ }
+    requires { ⌜ length (each (numbersOf count (now labels)) (now order)) ≤ length (now sequence) ⌝ }
+    ensures { λ r. ⌜ (let new = each (numbersOf count (now (labels .entry))) (now (order .entry)) in
+        (r ≡ length new) × (now (sequence .exit) ≡ over new (now (sequence .entry)))) ⌝ }
+{
+    let mut firsts = [1024u16; 512];
+    let mut nexts = [1024u16; 1024];
+    link(labels, count, &mut firsts, &mut nexts);
+    let mut end = 0;
+    let mut k = 0;
+    while k < order.len() {
+        end = append_chain(&nexts, first_of(&firsts, order[k]), sequence, end);
+        k += 1;
+    }
+    end
+}
+
+// Writes the records of these numbers, one after the other.
+fn write_records(all: [Event; 1024], numbers: &[u16], out: &mut [u8])
+    requires { ⌜ ((k : ℕ) → getD (now numbers) k 0 < 1024) × (8 * length (now numbers) ≤ length (now out)) ⌝ }
+    ensures { λ _. ⌜ now (out .exit) ≡ over (each (bytesAt all) (now (numbers .entry))) (now (out .entry)) ⌝ }
+{
+    let mut n = 0;
+    let mut k = 0;
+    while k < numbers.len() {
+        n += record::encode(all[numbers[k] as usize], &mut out[n..]);
+        k += 1;
+    }
 }
 
 // Writes the records of the transactions of `order`, one transaction after the other.
@@ -42,15 +93,12 @@ pub fn write_serial(
     order: &[u16],
     out: &mut [u8],
 )
-    requires { ⌜ (count ≤ 1024) × (length (each (bytesOf count all (now labels)) (now order)) ≤ length (now out)) ⌝ }
+    requires { ⌜ (count ≤ 1024) × Few count (now labels) × (length (each (bytesOf count all (now labels)) (now order)) ≤ 8 * count) × (8 * count ≤ length (now out)) ⌝ }
     ensures { λ _. ⌜ now (out .exit) ≡ over (each (bytesOf count all (now (labels .entry))) (now (order .entry))) (now (out .entry)) ⌝ }
 {
-    let mut end = 0;
-    let mut k = 0;
-    while k < order.len() {
-        end = write_transaction(all, labels, count, order[k], out, end);
-        k += 1;
-    }
+    let mut sequence = [0u16; 1024];
+    let n = line_up(labels, count, order, &mut sequence);
+    write_records(all, &sequence[..n], out);
 }
 
 // Writes the transactions of a cycle, each in two bytes, low byte first.
@@ -67,33 +115,6 @@ pub fn write_cycle(cycle: &[u16], out: &mut [u8])
     }
 }
 
-// Where a transaction begins: its thread and its first record.
-pub struct Beginning {
-    pub thread: u8,
-    pub record: u16,
-}
-
-pub fn begun(all: [Event; 1024], labels: &[u16; 1024], count: usize, a: u16) -> Beginning
-    requires { ⌜ count ≤ 1024 ⌝ }
-    ensures { λ r. ⌜ (r .thread ≡ threadOf (held count all (now (labels .entry))) a) × (r .record ≡ firstRecord 0 (held count all (now (labels .entry))) a) ⌝ }
-{
-    let mut i = 0;
-    while i < count {
-        if labels[i] == a {
-            let first = all[i];
-            return Beginning {
-                thread: first.thread,
-                record: i as u16,
-            };
-        }
-        i += 1;
-    }
-    Beginning {
-        thread: 0,
-        record: 0,
-    }
-}
-
 // Writes a line for each transaction of `order`: its number, its thread, its first record.
 pub fn write_lines(
     all: [Event; 1024],
@@ -102,16 +123,26 @@ pub fn write_lines(
     order: &[u16],
     lines: &mut [u16],
 )
-    requires { ⌜ (count ≤ 1024) × (3 * length (now order) ≤ length (now lines)) ⌝ }
+    requires { ⌜ (count ≤ 1024) × Few count (now labels) × (3 * length (now order) ≤ length (now lines)) ⌝ }
     ensures { λ _. ⌜ now (lines .exit) ≡ over (each (lineOf count all (now (labels .entry))) (now (order .entry))) (now (lines .entry)) ⌝ }
 {
+    let mut firsts = [1024u16; 512];
+    let mut nexts = [1024u16; 1024];
+    link(labels, count, &mut firsts, &mut nexts);
     let mut k = 0;
     while k < order.len() {
         let a = order[k];
-        let b = begun(all, labels, count, a);
+        let i = first_of(&firsts, a);
+        let mut thread = 0;
+        let mut first = 0;
+        if i < 1024 {
+            let e = all[i as usize];
+            thread = e.thread as u16;
+            first = i;
+        }
         lines[3 * k] = a;
-        lines[3 * k + 1] = b.thread as u16;
-        lines[3 * k + 2] = b.record;
+        lines[3 * k + 1] = thread;
+        lines[3 * k + 2] = first;
         k += 1;
     }
 }

@@ -1,4 +1,3 @@
-pub mod Decimals
 pub mod Words
 pub mod Lines
 pub mod Files

@@ -1,22 +1,20 @@
 -- Laws for the functions that make a line: bytes put after it, one after the other.
-use Prim.Native.Nat.{ℕ, suc, _+_, _-_, _*_, _/_, _%_, _≤_, _<_}
+use Prim.Native.Nat.{ℕ, _+_, _≤_, _<_}
 use native.Mathlib.Omega.{arith}
 use native.Mathlib.Numerals.{add-one}
 use mathlib.Core.Path.{_≡_, refl, sym, ap, subst, _∙_}
 use mathlib.Core.List.{List, [], _∷_, _++_, append-assoc, append-nil, map}
 use lib.ListN.{length, getD, take, length-append}
 use lib.Seq.{take-suc}
-use lib.Dec.{ltb}
-use borrow.Author.Tests.{le-leb, lt-leb, ltb-true, ltb-false}
+use borrow.Author.Tests.{le-leb, lt-leb}
 use Rattle.trace.proofs.Tests.{by}
 use Rattle.record.specs.declared.Event.{Event}
 use Rattle.record.specs.declared.Op.{Op}
 use Rattle.record.specs.Record.{kind, target, value}
 use Rattle.text.specs.declared.making.Line.{Line}
-use Rattle.text.specs.Decimal.{digit, decimal}
+use Rattle.decimal.specs.Decimal.{decimal}
 use Rattle.text.specs.Line.{space, lineFeed, name, fieldCount, fields, wordsOf, spaced, lineOf}
 use Rattle.text.specs.Steps.{contents, Longer, Holds, spacedOut}
-use Rattle.text.proofs.Decimals.{decimal-small, decimal-more}
 
 -- nothing put after it; one thing and then another; the same bytes said otherwise
 pub longer-none : (l : Line) → Longer l [] l
@@ -32,32 +30,10 @@ longer-both {a} {b} l m r p q =
 pub longer-as : {a b : List ℕ} (l r : Line) → a ≡ b → Longer l a r → Longer l b r
 longer-as l r e p = subst (λ x. Longer l x r) e p
 
--- ---- How long a number is
+-- ---- A word, byte by byte
 
-pub decimal-size : (n : ℕ) → 10 ≤ n → length (decimal n) ≡ length (decimal (n / 10)) + 1
-decimal-size n h = ap length (decimal-more n h) ∙ length-append (decimal (n / 10)) (digit (n % 10) ∷ [])
-
-size-step : (n m k : ℕ) → n < 10 * m → (n / 10 < m → length (decimal (n / 10)) ≤ k) → 1 ≤ k → length (decimal n) ≤ suc k
-size-step n m k h rest some = by (ltb n 10)
-    (λ e. omega (arith, ap length (decimal-small n (ltb-true n 10 e))))
-    (λ e. omega (arith, decimal-size n (ltb-false n 10 e), rest (omega arith)))
-
-size-one : (n : ℕ) → n < 10 → length (decimal n) ≤ 1
-size-one n h = omega (arith, ap length (decimal-small n h))
-
-pub size-two : (n : ℕ) → n < 100 → length (decimal n) ≤ 2
-size-two n h = size-step n 10 1 h (size-one (n / 10)) (omega arith)
-
-pub size-three : (n : ℕ) → n < 1000 → length (decimal n) ≤ 3
-size-three n h = size-step n 100 2 h (size-two (n / 10)) (omega arith)
-
-pub size-five : (n : ℕ) → n < 100000 → length (decimal n) ≤ 5
-size-five n h = size-step n 10000 4 h (λ g. size-step (n / 10) 1000 3 g (size-three (n / 10 / 10)) (omega arith)) (omega arith)
-
--- ---- A name, letter by letter
-
-pub name-on : (w : List ℕ) (j : ℕ) → j < length w → take (j + 1) w ≡ take j w ++ (getD w j 0 ∷ [])
-name-on w j h = ap (λ i. take i w) (add-one j) ∙ take-suc w j 0 h
+pub word-on : (w : List ℕ) (j : ℕ) → j < length w → take (j + 1) w ≡ take j w ++ (getD w j 0 ∷ [])
+word-on w j h = ap (λ i. take i w) (add-one j) ∙ take-suc w j 0 h
 
 -- ---- The numbers after the name
 

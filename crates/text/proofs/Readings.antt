@@ -13,10 +13,10 @@ use Rattle.trace.proofs.Tests.{by}
 use Rattle.record.specs.declared.Decoded.the-variants.{Good}
 use Rattle.record.specs.declared.Op.the-variants.{Yield}
 use Rattle.record.specs.Record.{targetLimit, operation}
-use Rattle.text.specs.Decimal.{valueFrom, valueOf, isNumber}
+use Rattle.decimal.specs.Decimal.{valueFrom, valueOf, isNumber}
 use Rattle.text.specs.Line.{space, words, glued, fieldCount, limits, fit, kindNamed, formless, readFields, readOperation, readWords}
 use Rattle.text.specs.Steps.{before, numberIn}
-use Rattle.text.proofs.Decimals.{number-within, number-digits}
+use Rattle.decimal.proofs.Decimals.{number-within, number-digits}
 use Rattle.text.proofs.Words.{words-cut, words-on, words-some, words-alone, digits-lack, named-low}
 use Rattle.text.proofs.Lines.{fields-good, fields-bad, operation-named, operation-none, operation-missing, words-good, words-bad}
 

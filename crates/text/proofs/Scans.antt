@@ -12,10 +12,10 @@ use borrow.Author.Tests.{le-leb, lt-leb, eq-eqb, ne-eqb, eqb-true, leb-true}
 use Rattle.trace.specs.Lists.{allOf}
 use Rattle.trace.proofs.Tests.{by, and-true}
 use Rattle.trace.proofs.Lists.{all-cons}
-use Rattle.text.specs.Decimal.{isDigit, valueFrom, valueOf, zeroLed, isNumber}
+use Rattle.decimal.specs.Decimal.{isDigit, valueFrom, valueOf, zeroLed, isNumber}
 use Rattle.text.specs.Line.{names, name, ascii, sameWord, placeFrom}
 use Rattle.text.specs.Steps.{before, runIn, numberIn}
-use Rattle.text.proofs.Decimals.{digit-is, is-digit}
+use Rattle.decimal.proofs.Decimals.{digit-is, is-digit}
 use Rattle.text.proofs.Words.{each-kind, place-here, place-later, same-is}
 
 -- ---- The first byte c

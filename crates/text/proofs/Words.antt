@@ -10,10 +10,10 @@ use borrow.Author.Tests.{eq-eqb, ne-eqb, eqb-true, not-true}
 use Rattle.trace.specs.Lists.{allOf, each}
 use Rattle.trace.proofs.Tests.{by, and-true}
 use Rattle.trace.proofs.Lists.{all-none, all-cons}
-use Rattle.text.specs.Decimal.{decimal, isDigit}
+use Rattle.decimal.specs.Decimal.{decimal, isDigit}
 use Rattle.text.specs.Line.{names, name, ascii, spaced, glued, words, sameWord, placeFrom, kindNamed, space, lineFeed}
 use Rattle.text.specs.File.{lines}
-use Rattle.text.proofs.Decimals.{is-digit, decimal-digits}
+use Rattle.decimal.proofs.Decimals.{is-digit, decimal-digits}
 
 -- ---- Words without a byte
 

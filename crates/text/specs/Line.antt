@@ -13,7 +13,7 @@ use Rattle.record.specs.declared.Op.{Op}
 use Rattle.record.specs.declared.Decoded.{Decoded}
 use Rattle.record.specs.declared.Decoded.the-variants.{Good, Refused}
 use Rattle.record.specs.Record.{kind, target, value, targetLimit, operation}
-use Rattle.text.specs.Decimal.{decimal, valueOf, isNumber}
+use Rattle.decimal.specs.Decimal.{decimal, valueOf, isNumber}
 
 -- the bytes of a text in ASCII
 unfoldable pub ascii : String → List ℕ
@@ -149,5 +149,5 @@ lineRead line = elim (eqb (lastByte line) lineFeed) [ true ↦ readWords (words 
 
 -- Everything above, opened at once, for a proof by computation: `unfolding opened`
 unfoldable pub opened : Unit {0}
-unfolding Rattle.text.specs.Decimal.opened Rattle.record.specs.Record.opened ascii names name fieldCount fields wordsOf spaced lineOf lineOver lineRoom glued words sameWord placeFrom kindNamed limits fit readFields readOperation readWords lineRead
+unfolding Rattle.decimal.specs.Decimal.opened Rattle.record.specs.Record.opened ascii names name fieldCount fields wordsOf spaced lineOf lineOver lineRoom glued words sameWord placeFrom kindNamed limits fit readFields readOperation readWords lineRead
 opened = tt

@@ -11,7 +11,7 @@ use Rattle.record.specs.declared.Decoded.{Decoded}
 use Rattle.record.specs.declared.Decoded.the-variants.{Good, Refused}
 use Rattle.text.specs.declared.Refusal.{Refusal}
 use Rattle.text.specs.declared.making.Line.{Line}
-use Rattle.text.specs.Decimal.{decimal, isDigit, valueFrom, valueOf, isNumber}
+use Rattle.decimal.specs.Decimal.{decimal, isDigit, valueFrom, valueOf, isNumber}
 use Rattle.text.specs.Line.{space, lineFeed}
 use Rattle.text.specs.File.{Fault, found, events}
 

@@ -6,7 +6,7 @@ ghost use mathlib.Core.Path.{_≡_};
 ghost use Prim.Native.Nat.{_+_, _≤_, _<_};
 ghost use mathlib.Core.List.{[], _∷_};
 ghost use lib.ListN.{length};
-ghost use Rattle.text.specs.Decimal.{decimal};
+ghost use Rattle.decimal.specs.Decimal.{decimal};
 ghost use Rattle.text.specs.Line.{name, fields, lineOf};
 ghost use Rattle.text.specs.Steps.{Longer, Holds, spacedOut};
 
@@ -33,11 +33,14 @@ fn with_decimal(line: Line, n: u16) -> Line
     requires { ⌜ line .len + length (decimal n) ≤ 24 ⌝ }
     ensures { λ r. ⌜ Longer line (decimal n) r ⌝ }
 {
-    if n < 10 {
-        return with_byte(line, b'0' + n as u8);
+    let digits = decimal::digits_of(n);
+    let mut longer = line;
+    let mut j = 0;
+    while j < digits.len {
+        longer = with_byte(longer, digits.bytes[j]);
+        j += 1;
     }
-    let tens = with_decimal(line, n / 10);
-    with_byte(tens, b'0' + (n % 10) as u8)
+    longer
 }
 
 // With the name of a kind.

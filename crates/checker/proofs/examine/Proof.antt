@@ -1,5 +1,5 @@
 -- `checker::examine` meets its contract: 1 and 2, or all records.
-use mathlib.Core.Path.{_≡_, sym, _∙_}
+use mathlib.Core.Path.{sym, _∙_}
 use Rattle.checker.proofs.Finding.{examined-unfit}
 use borrow.Author.Needs.{needs}
 use Rattle.checker.proofs.examine.Statement.{statement}

@@ -1,24 +1,23 @@
--- `checker::report` meets its contract: the sizes, then all records, then the arrangement, then what is written.
-use Prim.Native.Nat.{ℕ, _/_, _≤_}
+-- `checker::report` meets its contract: the judgement leaves what the lines need.
+use Prim.Native.Nat.{ℕ, _/_, _≤_, _<_}
 use native.Mathlib.Omega.{arith}
-use mathlib.Core.Path.{_≡_, refl, sym, ap, _∙_}
+use mathlib.Core.Path.{sym, ap, _∙_}
 use mathlib.Core.List.{List}
 use lib.ListN.{length, take}
-use Rattle.record.specs.declared.Event.{Event}
-use Rattle.record.specs.Faults.{firstFault}
-use Rattle.checker.specs.Refusals.{sizeChecks, events}
-use Rattle.checker.proofs.Refusing.{size-refused}
-use Rattle.checker.proofs.Reporting.{judged-refused, reported-refused, found-refusal, all-found, order-long, ready, judged-whole}
+use lib.Seq.{length-take-le}
+use Rattle.trace.specs.Lists.{each, over}
+use Rattle.checker.specs.Writing.{lineOf}
+use Rattle.checker.specs.Concluded.{namedIn}
+use Rattle.checker.proofs.Reporting.{told-none}
 use borrow.Author.Needs.{needs}
 use Rattle.checker.proofs.report.Statement.{statement}
 use Rattle.checker.proofs.report.Tie as tie
 
--- numbers 1 to 4 are passed
-passed : (c : tie.Else1) → let a = c .before .before .before .before .before .before .before .args in firstFault (sizeChecks (a .input .now) (a .out .now) (a .work .now)) ≡ 0
-passed c = sym (c .before .size-fault .ensures) ∙ c .if1 .left
+judge-with-requires : tie.Need-judge-with-requires
+judge-with-requires c κs = search needs
 
-size-fault-requires : tie.Need-size-fault-requires
-size-fault-requires c κs = search needs
+named-requires : tie.Need-named-requires
+named-requires c κs = search needs
 
 same-length : tie.Need-same-length
 same-length c = search needs
@@ -28,15 +27,29 @@ same-length-2 c = search needs
 
 returns : tie.Need-returns
 returns c =
-    let a = c .before .before .before .before .before .before .before .args in
-    let n : ℕ = c .before .size-fault .result in
-    let r = size-refused (a .input .now) (a .out .now) (a .work .now) n (sym (c .before .size-fault .ensures)) (c .if1 .taken) in (
-      judged-refused (a .input .now) (a .out .now) (a .work .now) (record { number = n; «record» = 0 }) r (c .if1 .taken),
-      reported-refused (a .input .now) (a .out .now) (a .work .now) (a .lines .now) n 0 r (c .if1 .taken),
-    )
+    let j = c .before .before .before .before .before .before .judge-with in
+    let a = c .before .before .before .before .before .before .before .before .before .before .before .before .before .before .args in
+    (j .ensures .0, told-none (a .input .now) (a .out .now) (a .work .now) (j .result .answer) (j .result .all) _ _ (a .lines .now) (j .ensures .1) (sym (c .before .named .ensures) ∙ c .if1 .taken))
 
-examine-requires : tie.Need-examine-requires
-examine-requires c κs = search needs
+-- the named transactions stand in the order
+inside : (c : tie.After-named) → c .named .result ≤ length (c .before .before .before .before .before .judge-with .last .1 .1 .1 .1 .0)
+inside c = let j = c .before .before .before .before .before .judge-with in omega (arith, c .named .ensures, j .ensures .1 .order-size, j .ensures .1 .named-few)
+
+array-share-prefix-order : tie.Need-array-share-prefix-order
+array-share-prefix-order c = inside (c .before .before .before)
+
+slice-aggregate-write-lines : tie.Need-slice-aggregate-write-lines
+slice-aggregate-write-lines c = sym (length-take-le _ _ (inside (c .before .before .before .before)))
+
+write-lines-requires : tie.Need-write-lines-requires
+write-lines-requires c κs =
+    let j = c .before .before .before .before .before .before .before .before .before .before .judge-with in
+    let n = c .before .before .before .before .before .named in
+    let some : 0 < namedIn (j .result .answer) = omega (arith, n .ensures, c .before .before .before .before .if1 .left) in (
+      j .ensures .1 .most some,
+      j .ensures .1 .few some,
+      omega (arith, length-take-le (n .result) (j .last .1 .1 .1 .1 .0) (inside (c .before .before .before .before .before)), n .ensures, j .ensures .1 .named-few, c .write-lines-arg .given .0 .1),
+    )
 
 same-length-3 : tie.Need-same-length-3
 same-length-3 c = search needs
@@ -46,66 +59,25 @@ same-length-4 c = search needs
 
 returns-2 : tie.Need-returns-2
 returns-2 c =
-    let a = c .before .before .before .before .before .before .before .before .before .before .before .before .args in
-    let e = c .before .before .before .examine in
-    let r = found-refusal (a .input .now) (a .out .now) (a .work .now) (passed (c .before .before .before .before .before)) _ _ (e .result) (e .ensures) in (
-      judged-refused (a .input .now) (a .out .now) (a .work .now) (e .result .refusal) r (c .if2 .taken),
-      reported-refused (a .input .now) (a .out .now) (a .work .now) (a .lines .now) _ _ r (c .if2 .taken),
+    let j = c .before .before .before .before .before .before .before .before .before .before .before .judge-with in
+    let a = c .before .before .before .before .before .before .before .before .before .before .before .before .before .before .before .before .before .before .before .args in
+    let f : ℕ → List ℕ = lineOf (length (a .input .now) / 8) (j .result .all) (j .last .1 .1 .1 .0) in (
+      j .ensures .0,
+      c .write-lines .ensures ∙ ap (λ n. over (each f (take n (j .last .1 .1 .1 .1 .0))) (a .lines .now)) (c .before .before .before .before .before .before .named .ensures) ∙ j .ensures .1 .lines-are (a .lines .now),
     )
-
-arrange-requires : tie.Need-arrange-requires
-arrange-requires c κs = search needs
-
-slice-aggregate-conclude : tie.Need-slice-aggregate-conclude
-slice-aggregate-conclude c =
-    let a = c .before .before .before .before .before .before .before .before .before .before .before .before .before .before .before .before .before .before .before .before .args in
-    let e = c .before .before .before .before .before .before .before .before .before .before .before .examine in
-    let none = c .before .before .before .before .before .before .before .before .if2 .left in
-    let found = all-found (a .input .now) (a .out .now) (a .work .now) (passed (c .before .before .before .before .before .before .before .before .before .before .before .before .before)) _ _ (e .result) (e .ensures) none in
-    let es : List Event = take (length (a .input .now) / 8) (e .result .all) in
-    sym (order-long (a .input .now) (a .out .now) (a .work .now) (passed (c .before .before .before .before .before .before .before .before .before .before .before .before .before)) _ _ (e .result) (e .ensures) none es (found .events-are) _ _ _ _ refl (c .before .before .before .before .arrange .ensures))
-
-conclude-requires : tie.Need-conclude-requires
-conclude-requires c κs =
-    let a = c .before .before .before .before .before .before .before .before .before .before .before .before .before .before .before .before .before .before .before .before .before .before .args in
-    let e = c .before .before .before .before .before .before .before .before .before .before .before .before .before .examine in
-    let none = c .before .before .before .before .before .before .before .before .before .before .if2 .left in
-    let found = all-found (a .input .now) (a .out .now) (a .work .now) (passed (c .before .before .before .before .before .before .before .before .before .before .before .before .before .before .before)) _ _ (e .result) (e .ensures) none in
-    let es : List Event = take (length (a .input .now) / 8) (e .result .all) in
-    ready (a .input .now) (a .out .now) (a .work .now) (passed (c .before .before .before .before .before .before .before .before .before .before .before .before .before .before .before)) _ _ (e .result) (e .ensures) none es (found .events-are) _ _ _ _ refl (c .before .before .before .before .before .before .arrange .ensures)
-    (a .lines .now) (omega (arith, c .conclude-arg2 .given .0 .1)) refl
-
-same-length-5 : tie.Need-same-length-5
-same-length-5 c = search needs
-
-same-length-6 : tie.Need-same-length-6
-same-length-6 c = search needs
-
-returns-3 : tie.Need-returns-3
-returns-3 c =
-    let a = c .before .before .before .before .before .before .before .before .before .before .before .before .before .before .before .before .before .before .before .before .before .before .before .before .before .args in
-    let e = c .before .before .before .before .before .before .before .before .before .before .before .before .before .before .before .before .examine in
-    let none = c .before .before .before .before .before .before .before .before .before .before .before .before .before .if2 .left in
-    let found = all-found (a .input .now) (a .out .now) (a .work .now) (passed (c .before .before .before .before .before .before .before .before .before .before .before .before .before .before .before .before .before .before)) _ _ (e .result) (e .ensures) none in
-    let es : List Event = take (length (a .input .now) / 8) (e .result .all) in
-    judged-whole (a .input .now) (a .out .now) (a .work .now) (passed (c .before .before .before .before .before .before .before .before .before .before .before .before .before .before .before .before .before .before)) _ _ (e .result) (e .ensures) none es (found .events-are) _ _ _ _ refl (c .before .before .before .before .before .before .before .before .before .arrange .ensures)
-    (a .lines .now) _ _ _ (c .before .before .conclude .ensures)
 
 pub report-spec : {M : Type 1} → statement M
 report-spec =
     tie.close
     (tie.spec
-    size-fault-requires
+    judge-with-requires
+    named-requires
     same-length
     same-length-2
     returns
-    examine-requires
+    array-share-prefix-order
+    slice-aggregate-write-lines
+    write-lines-requires
     same-length-3
     same-length-4
-    returns-2
-    arrange-requires
-    slice-aggregate-conclude
-    conclude-requires
-    same-length-5
-    same-length-6
-    returns-3)
+    returns-2)

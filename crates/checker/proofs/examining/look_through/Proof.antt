@@ -1,9 +1,9 @@
 -- `checker::examining::look_through` meets its contract: after i turns, what the first i records have led to is in the arrays.
-use Prim.Native.Nat.{ℕ, _+_, _-_, _*_, _/_, _≤_, _<_}
+use Prim.Native.Nat.{ℕ, _-_, _/_, _≤_}
 use native.Mathlib.Omega.{arith}
-use mathlib.Core.Path.{_≡_, refl, sym, ap, _∙_, subst}
+use mathlib.Core.Path.{_≡_, refl, ap, _∙_, subst}
 use mathlib.Core.List.{List}
-use lib.ListN.{length, take, drop, length-set}
+use lib.ListN.{length, length-set}
 use borrow.Author.Needs.{needs}
 use Rattle.record.specs.Faults.{firstFault}
 use Rattle.checker.specs.Seeing.{runOf, Saw}

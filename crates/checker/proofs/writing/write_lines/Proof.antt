@@ -1,44 +1,63 @@
 -- `checker::writing::write_lines` meets its contract: three stores for each transaction.
-use Prim.Native.Nat.{ℕ, _+_, _*_, _-_, _≤_, _<_}
+use Prim.Native.Nat.{ℕ, _+_, _*_, _-_, _≤_}
 use native.Mathlib.Omega.{arith}
-use mathlib.Core.Path.{_≡_, refl, sym, _∙_, ap₂}
-use mathlib.Core.List.{List, [], _∷_}
+use mathlib.Core.Path.{_≡_, sym, _∙_}
+use mathlib.Core.Logic.{⊎-elim}
+use mathlib.Core.List.{List}
 use lib.ListN.{length, getD, length-set}
+use borrow.Author.Needs.{needs}
 use Rattle.trace.specs.Lists.{each}
-use Rattle.checker.specs.Writing.{writtenAt, lineOf}
+use Rattle.graph.specs.Engine.{held}
+use Rattle.graph.specs.Serial.{threadOf}
+use Rattle.checker.specs.Report.{firstRecord}
+use Rattle.checker.specs.Writing.{lineOf}
 use Rattle.checker.proofs.Written.{Going, going-start, going-room, going-more, going-end, length-each, length-line, line-stored}
+use Rattle.checker.proofs.Linking.{none-first, Sought, begun}
 use Rattle.checker.proofs.writing.write_lines.Statement.{statement}
 use Rattle.checker.proofs.writing.write_lines.Tie as tie
 
 abbrev Inv-loop : tie.InvT-loop
-Inv-loop all labels count order lines₀ k₀ lines k = (k ≤ length order) × Going (lineOf count all labels) order lines₀ lines (3 * k) k
+Inv-loop labels count order lines₀ all firsts k₀ lines k =
+    (k ≤ length order) × Going (lineOf count all labels) order lines₀ lines (3 * k) k
 
 abbrev μ-loop : tie.MeasureT-loop
-μ-loop all labels count order lines₀ k₀ lines k = length order - k
+μ-loop labels count order lines₀ all firsts k₀ lines k = length order - k
 
 -- all the lines fit
 fits : (c : tie.In-loop Inv-loop μ-loop) →
-    let a = c .before .before .before .before .args in
-    length (each (lineOf (a .count) (a .all) (a .labels .now)) (a .order .now)) ≤ length (a .lines .now)
+    let a = c .before .before .before .before .before .before .before .before .before .before .args in
+    length (each (lineOf (a .count) (a .t1) (a .labels .now)) (a .order .now)) ≤ length (a .lines .now)
 fits c =
-    let a = c .before .before .before .before .args in
-    let f : ℕ → List ℕ = lineOf (a .count) (a .all) (a .labels .now) in
-    omega (arith, length-each f 3 (length-line (a .count) (a .all) (a .labels .now)) (a .order .now))
+    let s = c .before .before .before .before .before .before .before .before .before .before in
+    let a = s .args in
+    let f : ℕ → List ℕ = lineOf (a .count) (a .t1) (a .labels .now) in
+    omega (arith, s .pre .2, length-each f 3 (length-line (a .count) (a .t1) (a .labels .now)) (a .order .now))
 
 -- and there is room for one more
 room : (c : tie.In-loop Inv-loop μ-loop) → 3 * c .before .loop .k + 3 ≤ length (c .before .loop .lines)
 room c =
-    let a = c .before .before .before .before .args in
+    let a = c .before .before .before .before .before .before .before .before .before .before .args in
     let at = c .before .loop in
-    let f : ℕ → List ℕ = lineOf (a .count) (a .all) (a .labels .now) in
+    let f : ℕ → List ℕ = lineOf (a .count) (a .t1) (a .labels .now) in
     let r : 3 * at .k + length (f (getD (a .order .now) (at .k) 0)) ≤ length (at .lines) =
     going-room f (a .order .now) (a .lines .now) (at .lines) (3 * at .k) (at .k) (fits c) (omega arith) (at .inv .1) in
-    omega (arith, r, length-line (a .count) (a .all) (a .labels .now) (getD (a .order .now) (at .k) 0))
+    omega (arith, r, length-line (a .count) (a .t1) (a .labels .now) (getD (a .order .now) (at .k) 0))
+
+slice-aggregate-link : tie.Need-slice-aggregate-link Inv-loop μ-loop
+slice-aggregate-link c = search needs
+
+slice-aggregate-link-2 : tie.Need-slice-aggregate-link-2 Inv-loop μ-loop
+slice-aggregate-link-2 c = search needs
+
+link-requires : tie.Need-link-requires Inv-loop μ-loop
+link-requires c κs =
+    let s = c .before .before .before .before .before in
+    ((s .pre .0, omega arith, omega arith, omega arith), (s .pre .1, none-first 512))
 
 loop-holds : tie.Need-loop-holds Inv-loop μ-loop
 loop-holds c =
-    let a = c .before .before .args in
-    (omega arith, going-start (lineOf (a .count) (a .all) (a .labels .now)) (a .order .now) (a .lines .now))
+    let a = c .before .before .before .before .before .before .before .before .args in
+    (omega arith, going-start (lineOf (a .count) (a .t1) (a .labels .now)) (a .order .now) (a .lines .now))
 
 mul-a : tie.Need-mul-a Inv-loop μ-loop
 mul-a c = omega arith
@@ -46,8 +65,23 @@ mul-a c = omega arith
 shared-slice-read-a : tie.Need-shared-slice-read-a Inv-loop μ-loop
 shared-slice-read-a c = omega arith
 
-begun-requires : tie.Need-begun-requires Inv-loop μ-loop
-begun-requires c κs = omega arith
+slice-aggregate-first-of : tie.Need-slice-aggregate-first-of Inv-loop μ-loop
+slice-aggregate-first-of c = search needs
+
+first-of-requires : tie.Need-first-of-requires Inv-loop μ-loop
+first-of-requires c κs = search needs
+
+cast-e : tie.Need-cast-e Inv-loop μ-loop
+cast-e c = omega arith
+
+mul-e : tie.Need-mul-e Inv-loop μ-loop
+mul-e c = omega arith
+
+array-copy-out-e : tie.Need-array-copy-out-e Inv-loop μ-loop
+array-copy-out-e c = omega arith
+
+cast-thread : tie.Need-cast-thread Inv-loop μ-loop
+cast-thread c = omega arith
 
 mul-lines : tie.Need-mul-lines Inv-loop μ-loop
 mul-lines c = omega arith
@@ -56,10 +90,7 @@ mul-lines-2 : tie.Need-mul-lines-2 Inv-loop μ-loop
 mul-lines-2 c = omega arith
 
 slice-write-lines : tie.Need-slice-write-lines Inv-loop μ-loop
-slice-write-lines c = omega (arith, room (c .before .before))
-
-cast-lines : tie.Need-cast-lines Inv-loop μ-loop
-cast-lines c = omega arith
+slice-write-lines c = omega (arith, room (c .before .before .before .before))
 
 mul-lines-3 : tie.Need-mul-lines-3 Inv-loop μ-loop
 mul-lines-3 c = omega arith
@@ -71,7 +102,7 @@ mul-lines-4 : tie.Need-mul-lines-4 Inv-loop μ-loop
 mul-lines-4 c = omega arith
 
 slice-write-lines-2 : tie.Need-slice-write-lines-2 Inv-loop μ-loop
-slice-write-lines-2 c = simp length-set (omega (arith, room (c .before .before .before)))
+slice-write-lines-2 c = simp length-set (omega (arith, room (c .before .before .before .before)))
 
 mul-lines-5 : tie.Need-mul-lines-5 Inv-loop μ-loop
 mul-lines-5 c = omega arith
@@ -83,7 +114,7 @@ mul-lines-6 : tie.Need-mul-lines-6 Inv-loop μ-loop
 mul-lines-6 c = omega arith
 
 slice-write-lines-3 : tie.Need-slice-write-lines-3 Inv-loop μ-loop
-slice-write-lines-3 c = simp length-set (omega (arith, room (c .before .before .before)))
+slice-write-lines-3 c = simp length-set (omega (arith, room (c .before .before .before .before)))
 
 add-k : tie.Need-add-k Inv-loop μ-loop
 add-k c = omega arith
@@ -93,15 +124,24 @@ loop-less c = omega arith
 
 loop-again : tie.Need-loop-again Inv-loop μ-loop
 loop-again c =
-    let a = c .before .before .before .before .before .before .before .args in
-    let at = c .before .before .before .before .loop in
-    let n : ℕ = getD (a .order .now) (at .k) 0 in
-    let b = c .before .begun in
-    let size : length (lineOf (a .count) (a .all) (a .labels .now) n) ≡ 3 = length-line (a .count) (a .all) (a .labels .now) n in (
+    let at = c .before .before .before .before .before in
+    let s = at .before .before .before .before .before .before .before .before .before in
+    let n : ℕ = s .args .count in
+    let all = s .args .t1 in
+    let labels : List ℕ = s .args .labels .now in
+    let a : ℕ = getD (s .args .order .now) (at .loop .k) 0 in
+    let f = c .before .first-of in
+    let b = begun n all labels a (s .pre .0) (f .result) (f .ensures ∙ at .before .before .before .link .ensures .first-is a) in
+    let told : (c .if1 .thread ≡ threadOf (held n all labels) a) × (c .if1 .first ≡ firstRecord 0 (held n all labels) a) =
+    ⊎-elim
+    (λ w. let x : Sought n all labels a _ _ = b .0 (w .0 .taken) in (w .3 ∙ sym (x .thread-is), w .4 ∙ sym (x .place-is)))
+    (λ w. let x : Sought n all labels a 0 0 = b .1 (w .0 .left) in (w .1 ∙ sym (x .thread-is), w .2 ∙ sym (x .place-is)))
+    (c .if1 .came) in
+    let size : length (lineOf n all labels a) ≡ 3 = length-line n all labels a in (
       omega arith,
-      going-more (lineOf (a .count) (a .all) (a .labels .now)) (a .order .now) (a .lines .now) (at .lines) (3 * at .k) (at .k) _ (3 * (at .k + 1))
-          (fits (c .before .before .before)) (omega arith) (at .inv .1)
-          (line-stored (a .count) (a .all) (a .labels .now) n (b .result .thread) (b .result .«record») (at .lines) (3 * at .k) (room (c .before .before .before)) (b .ensures .0) (b .ensures .1))
+      going-more (lineOf n all labels) (s .args .order .now) (s .args .lines .now) (at .loop .lines) (3 * at .loop .k) (at .loop .k) _ (3 * (at .loop .k + 1))
+          (fits (c .before .before .before .before)) (omega arith) (at .loop .inv .1)
+          (line-stored n all labels a (c .if1 .thread) (c .if1 .first) (at .loop .lines) (3 * at .loop .k) (room (c .before .before .before .before)) (told .0) (told .1))
           (omega arith),
     )
 
@@ -110,9 +150,9 @@ same-length c = c .before .loop .inv .1 .same
 
 returns : tie.Need-returns Inv-loop μ-loop
 returns c =
-    let a = c .before .before .before .before .args in
+    let a = c .before .before .before .before .before .before .before .before .before .before .args in
     let at = c .before .loop in
-    going-end (lineOf (a .count) (a .all) (a .labels .now)) (a .order .now) (a .lines .now) (at .lines) (3 * at .k) (at .k) (omega arith) (at .inv .1)
+    going-end (lineOf (a .count) (a .t1) (a .labels .now)) (a .order .now) (a .lines .now) (at .lines) (3 * at .k) (at .k) (omega arith) (at .inv .1)
 
 pub write-lines-spec : {M : Type 1} → statement M
 write-lines-spec =
@@ -120,14 +160,21 @@ write-lines-spec =
     (tie.spec
     Inv-loop
     μ-loop
+    slice-aggregate-link
+    slice-aggregate-link-2
+    link-requires
     loop-holds
     mul-a
     shared-slice-read-a
-    begun-requires
+    slice-aggregate-first-of
+    first-of-requires
+    cast-e
+    mul-e
+    array-copy-out-e
+    cast-thread
     mul-lines
     mul-lines-2
     slice-write-lines
-    cast-lines
     mul-lines-3
     add-lines
     mul-lines-4

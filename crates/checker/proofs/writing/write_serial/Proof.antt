@@ -1,75 +1,77 @@
--- `checker::writing::write_serial` meets its contract: one transaction's records after the other's.
-use Prim.Native.Nat.{ℕ, _+_, _-_, _≤_, _<_}
+-- `checker::writing::write_serial` meets its contract: the numbers in serial order, and then the records.
+use Prim.Native.Nat.{ℕ, _≤_}
 use native.Mathlib.Omega.{arith}
-use mathlib.Core.Path.{_≡_, refl}
+use mathlib.Core.Path.{_≡_, sym, ap, _∙_, subst}
 use mathlib.Core.List.{List}
-use lib.ListN.{length}
-use Rattle.trace.specs.Lists.{each}
-use Rattle.checker.specs.Writing.{bytesOf}
-use Rattle.checker.proofs.Written.{Going, going-start, going-room, going-more, going-end}
+use lib.ListN.{length, take}
+use lib.Seq.{length-take-le}
+use borrow.Author.Needs.{needs}
+use Rattle.trace.specs.Lists.{each, over}
+use Rattle.checker.specs.Writing.{bytesAt, numbersOf}
+use Rattle.checker.proofs.Linking.{Low, numbers-below, lined-up, bytes-by-number, numbers-size}
 use Rattle.checker.proofs.writing.write_serial.Statement.{statement}
 use Rattle.checker.proofs.writing.write_serial.Tie as tie
 
-abbrev Inv-loop : tie.InvT-loop
-Inv-loop all labels count order out₀ end₀ k₀ out end k = (k ≤ length order) × Going (bytesOf count all labels) order out₀ out end k
+-- there are no more numbers than records
+few : (c : tie.After-sequence) →
+    let a = c .before .before .before .before .args in
+    length (each (numbersOf (a .count) (a .labels .now)) (a .order .now)) ≤ a .count
+few c =
+    let s = c .before .before .before .before in
+    omega (arith, s .pre .2, numbers-size (s .args .count) (s .args .all) (s .args .labels .now) (s .args .order .now))
 
-abbrev μ-loop : tie.MeasureT-loop
-μ-loop all labels count order out₀ end₀ k₀ out end k = length order - k
+-- they are lined up
+lined : (c : tie.After-line-up) →
+    let a = c .before .before .before .before .before .args in
+    take (c .line-up .result) (c .line-up .last .1 .1 .1 .0) ≡ each (numbersOf (a .count) (a .labels .now)) (a .order .now)
+lined c =
+    let a = c .before .before .before .before .before .args in
+    lined-up (a .count) (a .labels .now) (a .order .now) (c .line-up .result) _ (c .line-up .last .1 .1 .1 .0) (c .line-up .ensures .0) (c .line-up .ensures .1)
 
-loop-holds : tie.Need-loop-holds Inv-loop μ-loop
-loop-holds c =
-    let a = c .before .before .args in
-    (omega arith, going-start (bytesOf (a .count) (a .all) (a .labels .now)) (a .order .now) (a .out .now))
+inside : (c : tie.After-line-up) → c .line-up .result ≤ length (c .line-up .last .1 .1 .1 .0)
+inside c = omega (arith, c .line-up .ensures .0, few (c .before), c .before .before .before .before .before .pre .0)
 
-mul-write-transaction : tie.Need-mul-write-transaction Inv-loop μ-loop
-mul-write-transaction c = omega arith
+slice-aggregate-line-up : tie.Need-slice-aggregate-line-up
+slice-aggregate-line-up c = search needs
 
-shared-slice-read-write-transaction : tie.Need-shared-slice-read-write-transaction Inv-loop μ-loop
-shared-slice-read-write-transaction c = omega arith
+line-up-requires : tie.Need-line-up-requires
+line-up-requires c κs =
+    let s = c .before .before .before .before in
+    ((s .pre .0, omega (arith, s .pre .0), s .pre .1), omega (arith, few c))
 
-write-transaction-requires : tie.Need-write-transaction-requires Inv-loop μ-loop
-write-transaction-requires c κs =
-    let a = c .before .before .before .before .before .before .args in
-    let at = c .before .before .before .loop in
-    (omega arith, going-room (bytesOf (a .count) (a .all) (a .labels .now)) (a .order .now) (a .out .now) (at .out) (at .end) (at .k) (omega arith) (omega arith) (at .inv .1))
+array-share-prefix-sequence : tie.Need-array-share-prefix-sequence
+array-share-prefix-sequence c = inside (c .before)
 
-add-k : tie.Need-add-k Inv-loop μ-loop
-add-k c = omega arith
+slice-aggregate-write-records : tie.Need-slice-aggregate-write-records
+slice-aggregate-write-records c = sym (length-take-le _ _ (inside (c .before .before)))
 
-loop-less : tie.Need-loop-less Inv-loop μ-loop
-loop-less c = omega arith
-
-loop-again : tie.Need-loop-again Inv-loop μ-loop
-loop-again c =
-    let a = c .before .before .before .before .before .before .before .before .before .args in
-    let at = c .before .before .before .before .before .before .loop in
-    let w = c .before .before .write-transaction .ensures in (
-      omega arith,
-      going-more (bytesOf (a .count) (a .all) (a .labels .now)) (a .order .now) (a .out .now) (at .out) (at .end) (at .k) _ _ (omega arith) (omega arith) (at .inv .1)
-          (w .1) (w .0),
+write-records-requires : tie.Need-write-records-requires
+write-records-requires c κs =
+    let s = c .before .before .before .before .before .before .before .before in
+    let numbers : List ℕ = each (numbersOf (s .args .count) (s .args .labels .now)) (s .args .order .now) in
+    let front = lined (c .before .before .before) in (
+      subst Low (sym front) (numbers-below (s .args .count) (s .args .labels .now) (s .pre .0) (s .args .order .now)),
+      omega (arith, ap length front, few (c .before .before .before .before), s .pre .3),
     )
 
-same-length : tie.Need-same-length Inv-loop μ-loop
-same-length c = c .before .loop .inv .1 .same
+same-length : tie.Need-same-length
+same-length c = search needs
 
-returns : tie.Need-returns Inv-loop μ-loop
+returns : tie.Need-returns
 returns c =
-    let a = c .before .before .before .before .args in
-    let at = c .before .loop in
-    going-end (bytesOf (a .count) (a .all) (a .labels .now)) (a .order .now) (a .out .now) (at .out) (at .end) (at .k) (omega arith) (at .inv .1)
+    let s = c .before .before .before .before .before .before .before .before .before .before .before in
+    c .before .before .write-records .ensures
+    ∙ ap (λ l. over (each (bytesAt (s .args .all)) l) (s .args .out .now)) (lined (c .before .before .before .before .before .before))
+    ∙ ap (λ l. over l (s .args .out .now)) (sym (bytes-by-number (s .args .count) (s .args .all) (s .args .labels .now) (s .args .order .now)))
 
 pub write-serial-spec : {M : Type 1} → statement M
 write-serial-spec =
     tie.close
     (tie.spec
-    Inv-loop
-    μ-loop
-    loop-holds
-    mul-write-transaction
-    shared-slice-read-write-transaction
-    write-transaction-requires
-    add-k
-    loop-less
-    loop-again
+    slice-aggregate-line-up
+    line-up-requires
+    array-share-prefix-sequence
+    slice-aggregate-write-records
+    write-records-requires
     same-length
     returns)

@@ -6,7 +6,8 @@ use lib.ListN.{length}
 use Rattle.record.proofs.Laws.{shape}
 use Rattle.text.specs.Line.{name}
 use Rattle.text.proofs.Scans.{name-short}
-use Rattle.text.proofs.Makings.{size-three, line-made}
+use Rattle.decimal.proofs.Decimals.{size-three}
+use Rattle.text.proofs.Makings.{line-made}
 use borrow.Author.Needs.{needs}
 use Rattle.text.proofs.making.line_of.Statement.{statement}
 use Rattle.text.proofs.making.line_of.Tie as tie

@@ -5,7 +5,8 @@ use mathlib.Core.Path.{sym, ap, ap₂, _∙_}
 use mathlib.Core.List.{[], _∷_, _++_}
 use Rattle.record.specs.Record.{kind}
 use Rattle.text.specs.Steps.{spacedOut}
-use Rattle.text.proofs.Makings.{longer-none, longer-both, longer-as, size-three, size-five, field-size, fields-none, fields-one, fields-two}
+use Rattle.decimal.proofs.Decimals.{size-three, size-five}
+use Rattle.text.proofs.Makings.{longer-none, longer-both, longer-as, field-size, fields-none, fields-one, fields-two}
 use borrow.Author.Needs.{needs}
 use Rattle.text.proofs.making.with_fields.Statement.{statement}
 use Rattle.text.proofs.making.with_fields.Tie as tie

@@ -2,9 +2,10 @@
 use Prim.Native.Nat.{ℕ, zero, suc, _+_, _-_, _*_, _/_, _%_}
 use mathlib.Core.Bool.{Bool, true, false, not, _&&_}
 use mathlib.Core.List.{List, [], _∷_, _++_}
-use lib.ListN.{length, getD}
+use lib.ListN.{length, getD, replicate}
 use lib.Dec.{leb, ltb, eqb}
-use Rattle.trace.specs.Lists.{allOf}
+use Rattle.trace.specs.Lists.{allOf, over}
+use Rattle.decimal.specs.declared.Digits.{Digits}
 
 -- the byte of a digit
 abbrev pub digit : ℕ → ℕ
@@ -18,6 +19,10 @@ digits (suc k) n = elim (ltb n 10) [ true ↦ digit n ∷ [] | false ↦ digits 
 -- A number as it is written: n + 1 digits are always enough
 unfoldable pub decimal : ℕ → List ℕ
 decimal n = digits n n
+
+-- the digits of a number below 65,536 in five bytes, as code hands them on: those past them are 0
+unfoldable pub written : ℕ → Digits
+written n = record { bytes = over (decimal n) (replicate 5 0); len = length (decimal n) }
 
 -- whether a byte is one of the ten digits
 unfoldable pub isDigit : ℕ → Bool
@@ -41,5 +46,5 @@ isNumber limit w = leb 1 (length w) && (not (zeroLed w) && (allOf isDigit w && l
 
 -- Everything above, opened at once, for a proof by computation: `unfolding opened`
 unfoldable pub opened : Unit {0}
-unfolding digits decimal isDigit valueFrom zeroLed isNumber allOf
+unfolding digits decimal written isDigit valueFrom zeroLed isNumber allOf
 opened = tt

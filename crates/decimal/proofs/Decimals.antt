@@ -1,16 +1,19 @@
 -- Laws of decimal numbers: what is written is read back, and what reads is what would be written.
 use Prim.Native.Nat.{ℕ, zero, suc, _+_, _-_, _*_, _/_, _%_, _≤_, _<_}
 use native.Mathlib.Omega.{arith}
+use native.Mathlib.Numerals.{add-one}
 use mathlib.Core.Path.{_≡_, refl, sym, ap, ap₂, subst, _∙_}
 use mathlib.Core.Bool.{true, false, not, _&&_}
 use mathlib.Core.List.{List, [], _∷_, _++_, append-assoc, append-nil}
-use lib.ListN.{length, getD, length-append}
+use lib.ListN.{length, getD, set, take, drop, replicate, length-append, List·getD-append}
+use lib.Seq.{drop-cons, set-at, take-append-seam}
 use lib.Dec.{T, leb, ltb, eqb}
 use borrow.Author.Tests.{lt-ltb, le-ltb, le-leb, ltb-true, ltb-false, leb-true, leb-false, eqb-true, eq-eqb, not-true}
-use Rattle.trace.specs.Lists.{allOf}
+use Rattle.trace.specs.Lists.{allOf, over}
 use Rattle.trace.proofs.Tests.{by, and-true}
 use Rattle.trace.proofs.Lists.{all-none, all-cons}
-use Rattle.text.specs.Decimal.{digit, digits, decimal, isDigit, valueFrom, valueOf, zeroLed, isNumber}
+use Rattle.decimal.specs.declared.Digits.{Digits}
+use Rattle.decimal.specs.Decimal.{digit, digits, decimal, written, isDigit, valueFrom, valueOf, zeroLed, isNumber}
 
 -- ---- How a number is written
 
@@ -86,9 +89,9 @@ record Written (n : ℕ) (w : List ℕ) : Type 0 where
   long : 2 ≤ length w → 10 ≤ n
   zero-first : getD w 0 0 ≡ 48 → n ≡ 0
 
-written : (n : ℕ) → Written n (decimal n)
+written-as : (n : ℕ) → Written n (decimal n)
 unfolding valueFrom
-written = by-digits Written
+written-as = by-digits Written
     (λ n h. record {
       some = omega arith;
       worth = omega arith;
@@ -109,19 +112,19 @@ written = by-digits Written
     first d (c ∷ w) p z = z
 
 pub value-decimal : (n : ℕ) → valueOf (decimal n) ≡ n
-value-decimal n = written n .worth
+value-decimal n = written-as n .worth
 
 pub decimal-some : (n : ℕ) → 1 ≤ length (decimal n)
-decimal-some n = written n .some
+decimal-some n = written-as n .some
 
 pub decimal-digits : (n : ℕ) → allOf isDigit (decimal n) ≡ true
-decimal-digits n = written n .all-digits
+decimal-digits n = written-as n .all-digits
 
 pub number-decimal : (limit n : ℕ) → n ≤ limit → isNumber limit (decimal n) ≡ true
 unfolding isNumber zeroLed
 number-decimal limit n h =
     let w : List ℕ = decimal n in
-    let p : Written n w = written n in
+    let p : Written n w = written-as n in
     let z : (eqb (getD w 0 0) 48 && leb 2 (length w)) ≡ false = by (eqb (getD w 0 0) 48)
     (λ e. let n0 : n ≡ 0 = p .zero-first (eqb-true (getD w 0 0) 48 e) in
     ap₂ (λ a b. a && b) e (short n w p n0))
@@ -199,3 +202,73 @@ decimal-value limit w h = go w (reads limit w h)
         let d = and-true (isDigit c) (allOf isDigit w) (sym (all-cons isDigit c w) ∙ r .all-digits) in
         let b = is-digit c (d .0) in
         value-first c w (b .0) (b .1) (d .1) (r .led)
+
+-- ---- How long a number is
+
+pub decimal-size : (n : ℕ) → 10 ≤ n → length (decimal n) ≡ length (decimal (n / 10)) + 1
+decimal-size n h = ap length (decimal-more n h) ∙ length-append (decimal (n / 10)) (digit (n % 10) ∷ [])
+
+size-step : (n m k : ℕ) → n < 10 * m → (n / 10 < m → length (decimal (n / 10)) ≤ k) → 1 ≤ k → length (decimal n) ≤ suc k
+size-step n m k h rest some = by (ltb n 10)
+    (λ e. omega (arith, ap length (decimal-small n (ltb-true n 10 e))))
+    (λ e. omega (arith, decimal-size n (ltb-false n 10 e), rest (omega arith)))
+
+size-one : (n : ℕ) → n < 10 → length (decimal n) ≤ 1
+size-one n h = omega (arith, ap length (decimal-small n h))
+
+pub size-two : (n : ℕ) → n < 100 → length (decimal n) ≤ 2
+size-two n h = size-step n 10 1 h (size-one (n / 10)) (omega arith)
+
+pub size-three : (n : ℕ) → n < 1000 → length (decimal n) ≤ 3
+size-three n h = size-step n 100 2 h (size-two (n / 10)) (omega arith)
+
+pub size-five : (n : ℕ) → n < 100000 → length (decimal n) ≤ 5
+size-five n h = size-step n 10000 4 h (λ g. size-step (n / 10) 1000 3 g (size-three (n / 10 / 10)) (omega arith)) (omega arith)
+
+-- ---- In five bytes
+
+over-more : (w z : List ℕ) (c : ℕ) → length w < length z → set (over w z) (length w) c ≡ over (w ++ (c ∷ [])) z
+unfolding over
+over-more w z c h =
+    ap (λ r. set (w ++ r) (length w) c) (drop-cons z (length w) 0 h)
+    ∙ set-at w (getD z (length w) 0) (drop (suc (length w)) z) c (length w) refl
+    ∙ sym (append-assoc w (c ∷ []) (drop (suc (length w)) z))
+    ∙ ap (λ k. (w ++ (c ∷ [])) ++ drop k z) (sym (length-append w (c ∷ []) ∙ add-one (length w)))
+
+-- one digit
+pub written-one : (n : ℕ) → n < 10 → record { bytes = set (replicate 5 0) 0 (digit n); len = 1 } ≡ written n
+unfolding written over
+written-one n h = ap (λ w. record { bytes = w ++ drop (length w) (replicate 5 0); len = length w }) (sym (decimal-small n h))
+
+-- the digits of the tenth, and the last digit
+pub written-more : (n : ℕ) → 10 ≤ n → n < 65536 → (r : Digits) → r ≡ written (n / 10) → record { bytes = set (r .bytes) (r .len) (digit (n % 10)); len = r .len + 1 } ≡ written n
+unfolding written
+written-more n h k r e =
+    let w : List ℕ = decimal (n / 10) in
+    let short : length w ≤ 4 = size-step (n / 10) 1000 3 (omega arith) (size-three (n / 10 / 10)) (omega arith) in
+    ap (λ (x : Digits). record { bytes = set (x .bytes) (x .len) (digit (n % 10)); len = x .len + 1 }) e
+    ∙ ap₂ (λ (b : List ℕ) (m : ℕ). record { bytes = b; len = m }) (over-more w (replicate 5 0) (digit (n % 10)) (omega arith)) (sym (length-append w (digit (n % 10) ∷ [])))
+    ∙ ap (λ v. record { bytes = over v (replicate 5 0); len = length v }) (sym (decimal-more n h))
+
+pub written-short : (n : ℕ) → n < 10000 → (r : Digits) → r ≡ written n → r .len < 5
+unfolding written
+written-short n h r e = omega (arith, ap (λ x. x .len) e, size-step n 1000 3 h (size-three (n / 10)) (omega arith))
+
+-- what a caller knows of them
+pub written-size : (n : ℕ) (r : Digits) → r ≡ written n → r .len ≡ length (decimal n)
+unfolding written
+written-size n r e = ap (λ x. x .len) e
+
+pub written-digits : (n : ℕ) (r : Digits) → r ≡ written n → take (r .len) (r .bytes) ≡ decimal n
+unfolding written over
+written-digits n r e = ap (λ (x : Digits). take (x .len) (x .bytes)) e ∙ take-append-seam (decimal n) (drop (length (decimal n)) (replicate 5 0))
+
+pub written-room : (n : ℕ) (r : Digits) → r ≡ written n → r .len ≤ length (r .bytes)
+unfolding written over
+written-room n r e =
+    let w : List ℕ = decimal n in
+    subst (λ (x : Digits). x .len ≤ length (x .bytes)) (sym e) (omega (arith, length-append w (drop (length w) (replicate 5 0))))
+
+pub written-at : (n : ℕ) (r : Digits) (j : ℕ) → r ≡ written n → j < length (decimal n) → getD (r .bytes) j 0 ≡ getD (decimal n) j 0
+unfolding written over
+written-at n r j e h = ap (λ (x : Digits). getD (x .bytes) j 0) e ∙ List·getD-append (decimal n) (drop (length (decimal n)) (replicate 5 0)) 0 j h

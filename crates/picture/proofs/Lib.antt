@@ -1,0 +1,7 @@
+pub mod Marks
+pub mod Counts
+pub mod Pieces
+pub mod Texts
+pub mod Endings
+pub mod Right
+pub mod Answers
