@@ -73,7 +73,7 @@ pub fn number<'a>(current: &'a mut [u16; 16], count: &'a mut u16, e: Event) -> N
 }
 
 // How many events count of them are, at most all 1,024.
-fn at_most_all(count: usize) -> usize
+pub fn at_most_all(count: usize) -> usize
     ensures { λ r. ⌜ r ≡ min count 1024 ⌝ }
 {
     if count < 1024 {

@@ -8,10 +8,10 @@ use graph::Arranged;
 use record::Event;
 ghost use mathlib.Core.Path.{_≡_};
 ghost use mathlib.Core.Bool.{_&&_};
-ghost use Prim.Native.Nat.{_≤_, min};
+ghost use Prim.Native.Nat.{_≤_};
 ghost use lib.ListN.{take};
 ghost use Rattle.graph.specs.Arranged.{Arrangement, fits, arranged};
-ghost use Rattle.thin.specs.Orderly.{orderly};
+ghost use Rattle.thin.specs.Orderly as Orderly;
 ghost use Rattle.thin.specs.Cells.{cellsOf, closing, takenAs, taken};
 
 // Whether an event of transaction a closes a cycle: a reaches one of its sources, by the rows. A cell holds 0, or a transaction and 1.
@@ -73,26 +73,36 @@ pub fn take<'a>(
     );
 }
 
-// How many events count of them are, at most all 1,024.
-fn at_most_all(count: usize) -> usize
-    ensures { λ r. ⌜ r ≡ min count 1024 ⌝ }
+// Whether the first count of the events, all where there are fewer, are orderly: in range; no thread forked twice, acting before its fork or after
+// its join, or forked after its join.
+pub fn orderly(all: [Event; 1024], count: usize) -> bool
+    ensures { λ r. ⌜ r ≡ Orderly.orderly (take count all) ⌝ }
 {
-    if count < 1024 {
-        return count;
+    let number = graph::at_most_all(count);
+    let mut lives = [0u16; 16];
+    let mut i = 0;
+    while i < number {
+        let e = all[i];
+        if suiting::fits(&lives, e) {
+            suiting::see(&mut lives, e);
+        } else {
+            return false;
+        }
+        i += 1;
     }
-    1024
+    true
 }
 
 // Whether the engine takes the first count events, with this work area: they fit, and they are orderly.
 fn suits(all: [Event; 1024], count: usize, work: &[u64]) -> bool
     requires { ⌜ count ≤ 1024 ⌝ }
-    ensures { λ r. ⌜ r ≡ (fits (take count all) (now (work .entry)) && orderly (take count all)) ⌝ }
+    ensures { λ r. ⌜ r ≡ (fits (take count all) (now (work .entry)) && Orderly.orderly (take count all)) ⌝ }
 {
     if work.len() < 4096 {
         return false;
     }
     if suiting::few(all, count) {
-        return suiting::orderly(all, count);
+        return orderly(all, count);
     }
     false
 }
@@ -107,7 +117,7 @@ pub fn arrange(
     ensures { λ r. ⌜ _≡_ {A = Arrangement} (record { answer = r; order = now (order .exit); work = now (work .exit) })
         (arranged (take count all) (now (order .entry)) (now (work .entry))) ⌝ }
 {
-    let number = at_most_all(count);
+    let number = graph::at_most_all(count);
     if suits(all, number, work) {
         rows::begin(work);
         let prefix = search::search(all, number, work);

@@ -5,7 +5,7 @@ ghost use mathlib.Core.Path.{_≡_};
 ghost use Prim.Native.Nat.{_≤_};
 ghost use lib.ListN.{take};
 ghost use Rattle.thin.specs.Cells.{cellsOf, closing, takenAs, taken};
-ghost use Rattle.thin.specs.Engine.{looked, Searched, searchedAs, searched};
+ghost use Rattle.thin.specs.Engine.{looked, searchedAs, searched};
 
 // The rows to look at, where n transactions have begun before a record of transaction a: none, where the record begins it.
 fn rows_to_look(a: u16, n: u16) -> u16

@@ -1,4 +1,4 @@
-// Whether events are such as the engine takes: orderly, and of at most 512 transactions.
+// Whether events are such as the engine takes: the parts of it.
 use crate::cells;
 use graph::Numbered;
 use record::Event;
@@ -8,10 +8,9 @@ ghost use lib.Dec.{leb};
 ghost use lib.ListN.{take};
 ghost use Rattle.graph.specs.Transactions.{transactions, transactionLimit};
 ghost use Rattle.thin.specs.Orderly.{fitting, livesAfter};
-ghost use Rattle.thin.specs.Orderly as Orderly;
 
 // Whether an event is in range and fits to those before it: its thread wasn't joined, and one that it forks was never seen.
-fn fits(lives: &[u16; 16], e: Event) -> bool
+pub fn fits(lives: &[u16; 16], e: Event) -> bool
     ensures { λ r. ⌜ r ≡ fitting (now (lives .entry)) e ⌝ }
 {
     let t = e.thread;
@@ -34,7 +33,7 @@ fn fits(lives: &[u16; 16], e: Event) -> bool
 }
 
 // What is known of each thread after an event: its own has acted, one that it forks is seen, one that it joins has ended.
-fn see<'a>(lives: &'a mut [u16; 16], e: Event)
+pub fn see<'a>(lives: &'a mut [u16; 16], e: Event)
     ensures { λ _. ⌜ now (lives .exit) ≡ livesAfter (now (lives .entry)) e ⌝ }
 {
     let op = e.op;
@@ -45,25 +44,6 @@ fn see<'a>(lives: &'a mut [u16; 16], e: Event)
         9 => cells::set_entry(&mut *lives, child, 2),
         _ => {}
     }
-}
-
-// Whether the first count events are orderly.
-pub fn orderly(all: [Event; 1024], count: usize) -> bool
-    requires { ⌜ count ≤ 1024 ⌝ }
-    ensures { λ r. ⌜ r ≡ Orderly.orderly (take count all) ⌝ }
-{
-    let mut lives = [0u16; 16];
-    let mut i = 0;
-    while i < count {
-        let e = all[i];
-        if fits(&lives, e) {
-            see(&mut lives, e);
-        } else {
-            return false;
-        }
-        i += 1;
-    }
-    true
 }
 
 // Whether the first count events have at most 512 transactions.
