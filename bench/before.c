@@ -5,16 +5,13 @@
 
    The C library's functions are declared here, for the kit's compiler comes without headers. */
 
-#include "../include/quelohuite.h"
+#include "engines.h"
 #include "recordings.h"
 #include "timing.h"
 
 int printf(const char *, ...);
 int memcmp(const void *, const void *, size_t);
 int strncmp(const char *, const char *, size_t);
-
-typedef struct quelohuite_answer judge_function(
-    const uint8_t *, size_t, uint8_t *, size_t, uint64_t *, size_t);
 
 /* The earlier one: bench/run gives its function this name. */
 judge_function quelohuite_early;
@@ -58,7 +55,7 @@ static int compare(const struct shape *shape, size_t records) {
     close_cycle(&cyclic);
     if (!agree(&whole, QUELOHUITE_COOPERABLE, &answer)) return 0;
     if (!agree(&cyclic, QUELOHUITE_VIOLATION, &violation) || violation.first != cyclic.records - 1) return 0;
-    time_in_turns(calls, least, 4);
+    time_in_turns(calls, least, 4, MANY_ROUNDS);
     print_row(shape->name, "judging", answer.second, least[0], least[2]);
     print_row("", "after the rows", answer.second, least[0] - least[1], least[2] - least[3]);
     return 1;
