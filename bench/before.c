@@ -5,7 +5,7 @@
 
    The C library's functions are declared here, for the kit's compiler comes without headers. */
 
-#include "../include/quelohuite.h"
+#include "engines.h"
 #include "recordings.h"
 #include "timing.h"
 
@@ -13,11 +13,8 @@ int printf(const char *, ...);
 int memcmp(const void *, const void *, size_t);
 int strncmp(const char *, const char *, size_t);
 
-typedef struct quelohuite_answer judge_function(
-    const uint8_t *, size_t, uint8_t *, size_t, uint64_t *, size_t);
-
 /* The earlier one: bench/run gives its function this name. */
-judge_function quelohuite_early;
+judge_function queloearly_judge;
 
 enum { WORK = QUELOHUITE_WORK };
 static struct recording whole, cyclic;
@@ -28,8 +25,8 @@ static struct quelohuite_answer call(judge_function *judge, const struct recordi
     return judge(r->bytes, 8 * r->records, output[side], sizeof output[side], work[side], WORK);
 }
 
-static void before_whole(void) { call(quelohuite_early, &whole, 0); }
-static void before_cyclic(void) { call(quelohuite_early, &cyclic, 0); }
+static void before_whole(void) { call(queloearly_judge, &whole, 0); }
+static void before_cyclic(void) { call(queloearly_judge, &cyclic, 0); }
 static void now_whole(void) { call(quelohuite_judge, &whole, 1); }
 static void now_cyclic(void) { call(quelohuite_judge, &cyclic, 1); }
 static timed *const calls[4] = {before_whole, before_cyclic, now_whole, now_cyclic};
@@ -38,7 +35,7 @@ static timed *const calls[4] = {before_whole, before_cyclic, now_whole, now_cycl
 static int agree(const struct recording *r, uint64_t kind, struct quelohuite_answer *answer) {
     for (size_t i = 0; i < sizeof output[0]; i++) output[0][i] = output[1][i] = (uint8_t)(7 * i);
     for (size_t i = 0; i < WORK; i++) work[0][i] = work[1][i] = ~(uint64_t)i;
-    struct quelohuite_answer a = call(quelohuite_early, r, 0), b = call(quelohuite_judge, r, 1);
+    struct quelohuite_answer a = call(queloearly_judge, r, 0), b = call(quelohuite_judge, r, 1);
     *answer = b;
     return a.kind == kind && b.kind == kind && a.first == b.first && a.second == b.second &&
            memcmp(output[0], output[1], sizeof output[0]) == 0 &&
@@ -58,7 +55,7 @@ static int compare(const struct shape *shape, size_t records) {
     close_cycle(&cyclic);
     if (!agree(&whole, QUELOHUITE_COOPERABLE, &answer)) return 0;
     if (!agree(&cyclic, QUELOHUITE_VIOLATION, &violation) || violation.first != cyclic.records - 1) return 0;
-    time_in_turns(calls, least, 4);
+    time_in_turns(calls, least, 4, MANY_ROUNDS);
     print_row(shape->name, "judging", answer.second, least[0], least[2]);
     print_row("", "after the rows", answer.second, least[0] - least[1], least[2] - least[3]);
     return 1;

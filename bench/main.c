@@ -1,88 +1,153 @@
-/* Measures the proved checker beside the plain C one, in turns, on the same recordings and in the
-   same buffers. It asserts no time; it stops if the two don't leave the same bytes.
+/* Measures the proved engines beside the ones in C, in turns, on the same recordings and in the same
+   buffers. It asserts no time; it stops if any two don't leave the same bytes.
 
    The C library's functions are declared here, for the kit's compiler comes without headers. */
 
-#include "plain.h"
+#include "engines.h"
 #include "recordings.h"
 #include "timing.h"
 
 int printf(const char *, ...);
 int memcmp(const void *, const void *, size_t);
-enum { SIZES = 4, SHAPES = 16, WORK = QUELOHUITE_WORK };
+
+enum { SIZES = 4, SHAPES = 16, NIGHT = 400, NIGHT_ROUNDS = 5, WORK = QUELOHUITE_WORK };
 static const size_t sizes[SIZES] = {128, 256, 512, 1024};
 
-typedef struct quelohuite_answer judge_function(
-    const uint8_t *, size_t, uint8_t *, size_t, uint64_t *, size_t);
-
-static struct recording recording;
+static const struct recording *first;
+static size_t many;
 static uint8_t output[2][QUELOHUITE_MOST_INPUT];
 static uint64_t work[2][WORK];
-static double ours[SHAPES][SIZES], plain[SHAPES][SIZES];
 
-static struct quelohuite_answer call(judge_function *judge, int side) {
-    return judge(recording.bytes, 8 * recording.records, output[side], sizeof output[side],
-                 work[side], WORK);
+static struct quelohuite_answer call(judge_function *judge, const struct recording *r, int side) {
+    return judge(r->bytes, 8 * r->records, output[side], sizeof output[side], work[side], WORK);
 }
 
-/* Both are given the same contents and must leave the same. */
-static int agree(void) {
-    for (size_t i = 0; i < sizeof output[0]; i++) output[0][i] = output[1][i] = (uint8_t)(7 * i);
-    for (size_t i = 0; i < WORK; i++) work[0][i] = work[1][i] = ~(uint64_t)i;
-    struct quelohuite_answer a = call(quelohuite_judge, 0), b = call(plain_judge, 1);
-    return a.kind == b.kind && a.first == b.first && a.second == b.second &&
-           memcmp(output[0], output[1], sizeof output[0]) == 0 &&
-           memcmp(work[0], work[1], sizeof work[0]) == 0;
+static void call_all(judge_function *judge) {
+    for (size_t i = 0; i < many; i++) call(judge, first + i, 0);
 }
 
-static void call_ours(void) { call(quelohuite_judge, 0); }
-static void call_plain(void) { call(plain_judge, 0); }
-static timed *const sides[2] = {call_ours, call_plain};
+static void call_c_plain(void) { call_all(plain_judge); }
+static void call_c_fast(void) { call_all(fast_judge); }
+
+/* The library's one function has the plain engine, until it has two: then the one is fast, and the plain
+   engine has a function of its own. bench/run finds out. */
+#ifdef BOTH_ENGINES
+judge_function quelohuite_judge_plain;
+static void call_plain(void) { call_all(quelohuite_judge_plain); }
+static void call_fast(void) { call_all(quelohuite_judge); }
+enum { FAST, PLAIN, C_FAST, C_PLAIN, SIDES };
+static judge_function *const judges[SIDES] = {quelohuite_judge, quelohuite_judge_plain, fast_judge, plain_judge};
+static timed *const calls[SIDES] = {call_fast, call_plain, call_c_fast, call_c_plain};
+static const char *const names[SIDES] = {"fast", "plain", "C fast", "C plain"};
+static const int ratios[][2] = {{FAST, PLAIN}, {FAST, C_FAST}, {PLAIN, C_PLAIN}, {C_FAST, C_PLAIN}};
+#else
+static void call_plain(void) { call_all(quelohuite_judge); }
+enum { PLAIN, C_FAST, C_PLAIN, SIDES };
+static judge_function *const judges[SIDES] = {quelohuite_judge, fast_judge, plain_judge};
+static timed *const calls[SIDES] = {call_plain, call_c_fast, call_c_plain};
+static const char *const names[SIDES] = {"plain", "C fast", "C plain"};
+static const int ratios[][2] = {{PLAIN, C_PLAIN}, {C_FAST, C_PLAIN}};
+#endif
+enum { RATIOS = sizeof ratios / sizeof ratios[0] };
+static double times[SHAPES][SIZES][SIDES];
+
+/* All are given the same contents and must leave the same. */
+static int agree(const struct recording *r) {
+    struct quelohuite_answer answer = {0, 0, 0};
+    for (int side = 0; side < SIDES; side++) {
+        int here = side != 0;
+        for (size_t i = 0; i < sizeof output[0]; i++) output[here][i] = (uint8_t)(7 * i);
+        for (size_t i = 0; i < WORK; i++) work[here][i] = ~(uint64_t)i;
+        struct quelohuite_answer other = call(judges[side], r, here);
+        if (side == 0) answer = other;
+        if (answer.kind != other.kind || answer.first != other.first || answer.second != other.second ||
+            memcmp(output[0], output[here], sizeof output[0]) != 0 ||
+            memcmp(work[0], work[here], sizeof work[0]) != 0)
+            return 0;
+    }
+    return 1;
+}
+
+static void print_heading(const char *unit) {
+    printf("%-24s %7s", "recording", "records");
+    for (int side = 0; side < SIDES; side++) printf(" %7s, %s", names[side], unit);
+    for (int i = 0; i < RATIOS; i++) printf("  %5s / %-7s", names[ratios[i][0]], names[ratios[i][1]]);
+    printf("\n");
+}
+
+static void print_row(const char *name, size_t records, const double *time, double unit) {
+    printf("%-24s %7lu", name, (unsigned long)records);
+    for (int side = 0; side < SIDES; side++) printf(" %11.2f", time[side] / unit);
+    for (int i = 0; i < RATIOS; i++) printf("  %15.2f", time[ratios[i][0]] / time[ratios[i][1]]);
+    printf("\n");
+}
 
 static void print_growth(void) {
-    printf("\ngrowth of ours (and of C) from size to size: 2 is in proportion, 4 is by the square\n");
-    for (size_t s = 0; s < shape_count; s++) {
-        printf("%-24s", shapes[s].name);
-        for (int size = 1; size < SIZES; size++)
-            printf("  %7.2f (%5.2f)", ours[s][size] / ours[s][size - 1],
-                   plain[s][size] / plain[s][size - 1]);
-        printf("\n");
+    printf("\ngrowth from size to size: 2 is in proportion, 4 is by the square\n");
+    for (size_t s = 0; s < shape_count; s++)
+        for (int side = 0; side < SIDES; side++) {
+            printf("%-24s %-8s", side == 0 ? shapes[s].name : "", names[side]);
+            for (int size = 1; size < SIZES; size++)
+                printf("  %6.2f", times[s][size][side] / times[s][size - 1][side]);
+            printf("\n");
+        }
+}
+
+/* Of the first engine, which is what quelohuite_judge has. */
+static void print_worst(void) {
+    printf("\n");
+    for (int size = 0; size < SIZES; size++) {
+        size_t worst = 0;
+        for (size_t s = 1; s < shape_count; s++)
+            if (times[s][size][0] > times[worst][size][0]) worst = s;
+        printf("%5lu records: slowest for %s is %s, %.2f of typical\n", (unsigned long)sizes[size], names[0],
+               shapes[worst].name, times[worst][size][0] / times[0][size][0]);
     }
 }
 
-static void print_worst(void) {
-    for (int size = 0; size < SIZES; size++) {
-        size_t worst = 0, dearest = 0;
-        for (size_t s = 1; s < shape_count; s++) {
-            if (ours[s][size] > ours[worst][size]) worst = s;
-            if (ours[s][size] / plain[s][size] > ours[dearest][size] / plain[dearest][size]) dearest = s;
+static int measure_shapes(void) {
+    static struct recording recording;
+    first = &recording;
+    many = 1;
+    print_heading("us");
+    for (size_t s = 0; s < shape_count; s++)
+        for (int size = 0; size < SIZES; size++) {
+            shapes[s].make(&recording, sizes[size]);
+            if (!agree(&recording)) {
+                printf("%s, %lu records: two of them differ\n", shapes[s].name, (unsigned long)sizes[size]);
+                return 0;
+            }
+            time_in_turns(calls, times[s][size], SIDES, MANY_ROUNDS);
+            print_row(shapes[s].name, recording.records, times[s][size], 1e3);
         }
-        printf("%5lu records: slowest is %s, %.2f of typical; highest ratio is %s, %.2f\n",
-               (unsigned long)sizes[size], shapes[worst].name, ours[worst][size] / ours[0][size],
-               shapes[dearest].name, ours[dearest][size] / plain[dearest][size]);
+    return 1;
+}
+
+/* Four hundred recordings, one after the other. */
+static int measure_night(void) {
+    static struct recording night[NIGHT];
+    size_t violations = 0;
+    double time[SIDES];
+    first = night;
+    many = NIGHT;
+    for (unsigned i = 0; i < NIGHT; i++) {
+        of_a_night(&night[i], i);
+        if (!agree(&night[i])) {
+            printf("recording %u of the night: two of them differ\n", i);
+            return 0;
+        }
+        violations += call(plain_judge, &night[i], 0).kind == QUELOHUITE_VIOLATION;
     }
+    printf("\na night: %d recordings, %lu of them violations\n", NIGHT, (unsigned long)violations);
+    print_heading("ms");
+    time_in_turns(calls, time, SIDES, NIGHT_ROUNDS);
+    print_row("a night", MOST_RECORDS, time, 1e6);
+    return 1;
 }
 
 int main(void) {
-    printf("%-24s %7s %12s %12s %10s\n", "recording", "records", "ours, us", "C, us", "ours / C");
-    for (size_t s = 0; s < shape_count; s++) {
-        for (int size = 0; size < SIZES; size++) {
-            shapes[s].make(&recording, sizes[size]);
-            if (!agree()) {
-                printf("%s, %lu records: the two differ\n", shapes[s].name, (unsigned long)sizes[size]);
-                return 1;
-            }
-            double least[2];
-            time_in_turns(sides, least, 2);
-            ours[s][size] = least[0];
-            plain[s][size] = least[1];
-            printf("%-24s %7lu %12.2f %12.2f %10.2f\n", shapes[s].name,
-                   (unsigned long)recording.records, ours[s][size] / 1e3, plain[s][size] / 1e3,
-                   ours[s][size] / plain[s][size]);
-        }
-    }
+    if (!measure_shapes()) return 1;
     print_growth();
-    printf("\n");
     print_worst();
-    return 0;
+    return measure_night() ? 0 : 1;
 }

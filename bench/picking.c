@@ -53,7 +53,7 @@ int main(void) {
                 printf("the two orders differ\n");
                 return 1;
             }
-            time_in_turns(sides, least, 2);
+            time_in_turns(sides, least, 2, MANY_ROUNDS);
             printf("%-8s %14u %12.2f %12.2f %12.2f\n", dense ? "dense" : "sparse", transactions,
                    least[0] / 1e3, least[1] / 1e3, least[0] / least[1]);
         }

@@ -28,18 +28,16 @@ static void begin(struct recording *r, unsigned threads) {
     add(r, 0, YIELD, 0, 0);
 }
 
-/* Six threads, eight locks: acquire, read, write, release, yield, mixed with the others'.
-   Each section keeps to one lock and one variable, so the recording is cooperable. */
-static void typical(struct recording *r, size_t records) {
-    enum { USED_THREADS = 6, USED_LOCKS = 8 };
-    unsigned place[USED_THREADS] = {0}, lock[USED_THREADS] = {0};
-    unsigned held[USED_LOCKS] = {0}, value[USED_LOCKS] = {0};
-    uint64_t state = 1;
-    begin(r, USED_THREADS);
+/* Acquire, read, write, release, yield, mixed with the others'. Each section keeps to one lock and one
+   variable, so the recording is cooperable. */
+static void sections(struct recording *r, size_t records, unsigned threads, unsigned locks, uint64_t state) {
+    unsigned place[16] = {0}, lock[16] = {0};
+    unsigned held[32] = {0}, value[32] = {0};
+    begin(r, threads);
     while (r->records < records) {
-        unsigned thread = next_number(&state, USED_THREADS);
+        unsigned thread = next_number(&state, threads);
         if (place[thread] == 0) {
-            lock[thread] = next_number(&state, USED_LOCKS);
+            lock[thread] = next_number(&state, locks);
             if (held[lock[thread]]) continue;
         }
         unsigned m = lock[thread];
@@ -53,6 +51,9 @@ static void typical(struct recording *r, size_t records) {
         place[thread] = (place[thread] + 1) % 5;
     }
 }
+
+/* Six threads, eight locks. */
+static void typical(struct recording *r, size_t records) { sections(r, records, 6, 8, 1); }
 
 /* Sixteen threads in turn make half as many transactions as there are records: 512 of 1,024. Each
    accesses one variable and yields; the last ones, where no more records are left, only yield. */
@@ -123,6 +124,11 @@ void close_cycle(struct recording *r) {
     add(r, 2, READ, 200, 1);
     add(r, 2, WRITE, 201, 1);
     add(r, 1, READ, 201, 1);
+}
+
+void of_a_night(struct recording *r, unsigned number) {
+    sections(r, MOST_RECORDS, 3 + number % 14, 1 + number % 32, number * 0x9E3779B97F4A7C15u);
+    if (number % 10 == 9) close_cycle(r);
 }
 
 const struct shape shapes[] = {

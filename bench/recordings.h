@@ -23,6 +23,10 @@ struct shape {
    200 and 201 alone and in which threads 1 and 2 run. */
 void close_cycle(struct recording *);
 
+/* The recording of a night by its number: typical, of 1,024 records, with 3 to 16 threads and 1 to 32
+   locks. One in ten ends in a violation. */
+void of_a_night(struct recording *, unsigned number);
+
 extern const struct shape shapes[];
 extern const size_t shape_count;
 

@@ -4,7 +4,7 @@
 
 struct timespec { long seconds, nanoseconds; };
 int clock_gettime(int, struct timespec *);
-enum { PROCESSOR_TIME = 2, ROUNDS = 101 };
+enum { PROCESSOR_TIME = 2 };
 
 static double now(void) {
     struct timespec time;
@@ -18,11 +18,11 @@ static double batch(timed *call, size_t times) {
     return (now() - start) / (double)times;
 }
 
-void time_in_turns(timed *const calls[], double least[], size_t count) {
+void time_in_turns(timed *const calls[], double least[], size_t count, size_t rounds) {
     size_t times = 1;
     while (times < 1000000 && batch(calls[count - 1], times) * (double)times < 1e6) times *= 2;
     for (size_t i = 0; i < count; i++) least[i] = 1e18;
-    for (size_t turn = 0; turn < ROUNDS * count; turn++) {
+    for (size_t turn = 0; turn < rounds * count; turn++) {
         size_t i = (turn + turn / count) % count;
         double time = batch(calls[i], times);
         if (time < least[i]) least[i] = time;

@@ -5,7 +5,7 @@ use std::panic::{catch_unwind, AssertUnwindSafe};
 
 use reference::{Answer, WORK_AREA};
 
-use crate::library;
+use crate::engines::ENGINES;
 use crate::numbers::Numbers;
 
 #[derive(Clone, Debug, PartialEq, Eq)]
@@ -57,16 +57,16 @@ impl Case {
         Lent { input: &self.input, out, work }
     }
 
-    /// The answer of both sides, or what they differ in, in words.
+    /// The answer of all engines and of the reference, or what one differs in, in words.
     pub fn compared(&self) -> Result<Answer, String> {
         let lent = self.lent();
         let reference = lent.left_by(reference::judge);
-        let checker = lent.left_by(library::judge);
-        let answer = reference.as_ref().map(|left| left.answer);
-        match difference(checker, reference) {
-            Some(said) => Err(said),
-            None => Ok(answer.expect("both sides have answered")),
+        for (name, judge) in ENGINES {
+            if let Some(said) = difference(&lent.left_by(judge), &reference) {
+                return Err(format!("{name}\n{said}"));
+            }
         }
+        Ok(reference.expect("both sides have answered").answer)
     }
 }
 
@@ -113,24 +113,27 @@ impl<A> Left<A> {
 
 /// What the two sides differ in, in words.
 pub fn difference<A: Debug + PartialEq>(
-    library: Option<Left<A>>,
-    reference: Option<Left<A>>,
+    ours: &Option<Left<A>>,
+    reference: &Option<Left<A>>,
 ) -> Option<String> {
-    let (Some(library), Some(reference)) = (library, reference) else {
+    let (Some(ours), Some(reference)) = (ours, reference) else {
         return Some("one side stopped in a panic".to_string());
     };
-    if library.answer != reference.answer {
-        let (ours, theirs) = (library.answer, reference.answer);
-        return Some(format!("library:   {ours:?}\nreference: {theirs:?}"));
+    if ours.answer != reference.answer {
+        let (ours, theirs) = (&ours.answer, &reference.answer);
+        return Some(format!("ours:      {ours:?}\nreference: {theirs:?}"));
     }
-    let same = format!("both answer {:?}", library.answer);
-    if library.out != reference.out {
-        let (ours, theirs) = (library.lent_out(), reference.lent_out());
+    let same = format!("both answer {:?}", ours.answer);
+    if ours.out != reference.out {
+        let (ours, theirs) = (ours.lent_out(), reference.lent_out());
         return Some(format!(
-            "{same}\noutput of library:   {ours:02X?}\noutput of reference: {theirs:02X?}"
+            "{same}\nour output:          {ours:02X?}\noutput of reference: {theirs:02X?}"
         ));
     }
-    let place = (0..library.work.len()).find(|at| library.work[*at] != reference.work[*at])?;
+    if ours.work == reference.work {
+        return None;
+    }
+    let place = (0..ours.work.len()).find(|at| ours.work[*at] != reference.work[*at])?;
     let place = place as i64 - FENCE as i64;
     Some(format!("{same}\nthe work areas differ, first at {place}"))
 }

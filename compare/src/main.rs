@@ -3,6 +3,7 @@
 mod case;
 mod damage;
 mod edges;
+mod engines;
 mod fixed;
 mod graphviz;
 mod histories;

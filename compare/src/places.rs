@@ -60,10 +60,12 @@ pub fn cases(fixed: Vec<Vec<u8>>, count: u64, numbers: &mut Numbers) -> Vec<Case
     cases
 }
 
-/// All places of a cycle of this length, and some past its end.
+/// All places of a cycle of this length, and some past its end: among them those that would be 0 if
+/// they were cut to 9, 16 or 32 bits.
 fn places(length: usize) -> Vec<usize> {
     let mut places: Vec<usize> = (0..=length + 1).collect();
-    places.extend([511, 512, 65535, usize::MAX].into_iter().filter(|place| *place > length + 1));
+    let far = [511, 512, 65535, 65536, usize::MAX / 2 + 1, usize::MAX];
+    places.extend(far.into_iter().filter(|place| *place > length + 1));
     places
 }
 
@@ -82,7 +84,7 @@ pub fn compared(case: &Case) -> Result<Asked, String> {
         let said: Left<Why> = reference.with(reference.answer.at(place as u64));
         asked.count(&said.answer);
         let library = lent.left_by(|input, out, work| library::why(input, out, work, place));
-        if let Some(words) = difference(library, Some(said)) {
+        if let Some(words) = difference(&library, &Some(said)) {
             return Err(format!("asked for place {place}\n{words}"));
         }
     }

@@ -30,5 +30,5 @@ pub fn cases(input: &[u8], needed: usize, numbers: &mut Numbers) -> Vec<Case> {
 /// What the two sides differ in, in words.
 pub fn compared(case: &Case, library: Writes, reference: Writes) -> Option<String> {
     let lent = case.lent();
-    difference(lent.left_by(library), lent.left_by(reference))
+    difference(&lent.left_by(library), &lent.left_by(reference))
 }
