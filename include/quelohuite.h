@@ -81,6 +81,13 @@ struct quelohuite_answer quelohuite_judge(
     uint8_t *output, size_t output_length,
     uint64_t *work, size_t work_length);
 
+/* The same by the plain engine, which compares every two records: the same answer, output and work
+   area, more slowly. It is there to be held against. */
+struct quelohuite_answer quelohuite_judge_plain(
+    const uint8_t *input, size_t input_length,
+    uint8_t *output, size_t output_length,
+    uint64_t *work, size_t work_length);
+
 /* Values of `kind` of what is told of an edge. */
 #define QUELOHUITE_BECAUSE      0 /* first, second: the two records that make the edge;
                                      reason, number: on what they conflict, below */
@@ -110,6 +117,34 @@ struct quelohuite_reason quelohuite_why(
     uint8_t *output, size_t output_length,
     uint64_t *work, size_t work_length,
     size_t place);
+
+/* Values of `kind` of the two below: 0 is done, 2 is QUELOHUITE_REFUSED, and 1 is never answered. */
+#define QUELOHUITE_DONE 0
+
+/* Only from quelohuite_propose. */
+#define QUELOHUITE_RECORDS 15 /* the recording with its proposed yields would pass 1,024 records */
+
+/* Draws the transactions and edges of one recording in the DOT language, also where it is a violation.
+   Done: first is the number of bytes of text, which stand at the front of the output; second is 0. The
+   work area's first 4,096 numbers are 0.
+   Refusals are tried in the order 1, 2, 4, 5 to 13, 3; here 3 says that the text doesn't fit. After 3 the
+   output is as it was and the work area's first 4,096 numbers are 0; after the others both are as they
+   were. 3,148,300 bytes of output are always enough. */
+struct quelohuite_answer quelohuite_dot(
+    const uint8_t *input, size_t input_length,
+    uint8_t *output, size_t output_length,
+    uint64_t *work, size_t work_length);
+
+/* Puts a yield before each record of one recording that would be a violation.
+   Done: first is the number of bytes of the finished recording, which stand at the front of the output;
+   second is the number of yields that were added. The work area's first 4,096 numbers are 0.
+   Refusals are tried in the order 1, 2, 3, 4, 5 to 13 of the whole input, where 3 says that the output has
+   fewer than 8,192 bytes; they leave output and work area as they were. Then, at an input record that has
+   no room, 15 or 13; the output is as it was and the work area's first 4,096 numbers are 0. */
+struct quelohuite_answer quelohuite_propose(
+    const uint8_t *input, size_t input_length,
+    uint8_t *output, size_t output_length,
+    uint64_t *work, size_t work_length);
 
 #ifdef __cplusplus
 }

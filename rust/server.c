@@ -1,6 +1,7 @@
 /* Answers each request on standard input, for a machine that is not x86-64.
 
-   A request: which function (0 judge, 1 why), the place that is asked for, and the lengths of input,
+   A request: which function (0 judge, 1 why, 2 judge by the plain
+   engine, 3 dot, 4 propose), the place that is asked for, and the lengths of input,
    output and work area, 8 bytes each, low byte first; then the contents of the three. The reply: five
    numbers, 0 where the function answers fewer, then the contents of output and work area. */
 
@@ -8,7 +9,8 @@ typedef unsigned char u8;
 typedef unsigned long u64;
 
 struct quelohuite_answer { u64 kind, first, second; };
-struct quelohuite_answer quelohuite_judge(const u8 *, u64, u8 *, u64, u64 *, u64);
+typedef struct quelohuite_answer answers(const u8 *, u64, u8 *, u64, u64 *, u64);
+answers quelohuite_judge, quelohuite_judge_plain, quelohuite_dot, quelohuite_propose;
 struct quelohuite_reason { u64 kind, first, second, reason, number; };
 struct quelohuite_reason quelohuite_why(const u8 *, u64, u8 *, u64, u64 *, u64, u64);
 
@@ -44,9 +46,13 @@ static struct quelohuite_reason answer(
     if (asked->function == 1)
         return quelohuite_why(
             input, asked->input, output, asked->output, work, asked->work, asked->place);
-    struct quelohuite_answer judged =
-        quelohuite_judge(input, asked->input, output, asked->output, work, asked->work);
-    return (struct quelohuite_reason){judged.kind, judged.first, judged.second, 0, 0};
+    answers *function = asked->function == 2 ? quelohuite_judge_plain
+                      : asked->function == 3 ? quelohuite_dot
+                      : asked->function == 4 ? quelohuite_propose
+                                             : quelohuite_judge;
+    struct quelohuite_answer said =
+        function(input, asked->input, output, asked->output, work, asked->work);
+    return (struct quelohuite_reason){said.kind, said.first, said.second, 0, 0};
 }
 
 static int serve(const struct request *asked) {

@@ -8,8 +8,9 @@ use crate::library;
 pub type Judges = fn(&[u8], &mut [u8], &mut [u64]) -> Answer;
 
 /// Each is held to the reference on every recording.
-pub const ENGINES: [(&str, Judges); 3] = [
+pub const ENGINES: [(&str, Judges); 4] = [
     ("judge", library::judge),
+    ("judge by the plain engine", library::judge_plain),
     ("the fast engine in C", fast_in_c),
     ("the plain one in C", plain_in_c),
 ];

@@ -1,18 +1,34 @@
 //! The library's functions, with their answers said as the reference says them.
 
 use reference::why::{Reason, Why};
-use reference::Answer;
+use reference::{Answer, Refusal};
 
-use crate::writing::Writes;
+/// The picture of the graph.
+pub fn dot(input: &[u8], out: &mut [u8], work: &mut [u64]) -> Result<usize, Refusal> {
+    quelohuite::dot(input, out, work).map(|bytes| bytes as usize).map_err(refusal)
+}
 
-/// The picture of the graph, where the library has it.
-pub const DOT: Option<Writes> = None;
-/// The recording with proposed yields, where the library has it.
-pub const PROPOSE: Option<Writes> = None;
+/// The recording with proposed yields.
+pub fn propose(input: &[u8], out: &mut [u8], work: &mut [u64]) -> Result<usize, Refusal> {
+    quelohuite::propose(input, out, work).map(|done| done.bytes as usize).map_err(refusal)
+}
+
+fn refusal(given: quelohuite::Refusal) -> Refusal {
+    (given.number as u8, given.record as usize)
+}
 
 /// The proved checker.
 pub fn judge(input: &[u8], out: &mut [u8], work: &mut [u64]) -> Answer {
-    match quelohuite::judge(input, out, work) {
+    said(quelohuite::judge(input, out, work))
+}
+
+/// The same by the plain engine.
+pub fn judge_plain(input: &[u8], out: &mut [u8], work: &mut [u64]) -> Answer {
+    said(quelohuite::judge_plain(input, out, work))
+}
+
+fn said(answer: quelohuite::Answer) -> Answer {
+    match answer {
         quelohuite::Answer::Cooperable { records, transactions } => {
             Answer::Cooperable { records, transactions }
         }

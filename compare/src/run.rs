@@ -223,9 +223,7 @@ impl Run {
             inputs.extend([recordings::violation(&mut numbers), recordings::any(&mut numbers)]);
         }
         self.graphviz(&inputs);
-        if let Some(dot) = library::DOT {
-            self.written(dot, reference::dot::dot, 0, &inputs, &mut numbers);
-        }
+        self.written(library::dot, reference::dot::dot, 0, &inputs, &mut numbers);
         self.runs(Program::dot(), inputs);
     }
 
@@ -239,9 +237,8 @@ impl Run {
         }
         inputs.extend(proposals::recordings(count, &mut numbers));
         proposals::print(&inputs);
-        if let Some(propose) = library::PROPOSE {
-            self.written(propose, reference::propose::propose, MOST_BYTES, &inputs, &mut numbers);
-        }
+        let reference = reference::propose::propose;
+        self.written(library::propose, reference, MOST_BYTES, &inputs, &mut numbers);
         let Some(program) = self.found(Program::propose()) else { return };
         let file = proposals::new_file();
         for (place, input) in inputs.into_iter().enumerate() {

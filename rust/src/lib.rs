@@ -47,6 +47,22 @@ pub enum Told {
     Refused { number: u64, record: u64 },
 }
 
+/// Why something was refused, as `Answer::Refused`.
+#[derive(Clone, Copy, Debug, PartialEq, Eq)]
+pub struct Refusal {
+    pub number: u64,
+    pub record: u64,
+}
+
+/// What was proposed.
+#[derive(Clone, Copy, Debug, PartialEq, Eq)]
+pub struct Proposed {
+    /// Bytes of the finished recording, at the front of the output.
+    pub bytes: u64,
+    /// Yields that were added.
+    pub yields: u64,
+}
+
 /// The answer as the library gives it.
 #[repr(C)]
 struct Numbers {
@@ -63,6 +79,16 @@ impl Numbers {
             1 => Answer::Violation { record: first, length: second },
             2 => Answer::Refused { number: first, record: second },
             _ => panic!("the library answers no kind but 0, 1 and 2; it answered {kind}"),
+        }
+    }
+
+    /// Of what is written or refused, and no more.
+    fn written(self) -> Result<(u64, u64), Refusal> {
+        let Numbers { kind, first, second } = self;
+        match kind {
+            0 => Ok((first, second)),
+            2 => Err(Refusal { number: first, record: second }),
+            _ => panic!("the library answers no kind but 0 and 2 here; it answered {kind}"),
         }
     }
 }
@@ -105,6 +131,12 @@ pub fn judge(input: &[u8], out: &mut [u8], work: &mut [u64]) -> Answer {
     library::judge(input, out, work).answer()
 }
 
+/// Judges one recording by the plain engine, which compares every two records: the same answer, output
+/// and work area, more slowly. It is there to be held against.
+pub fn judge_plain(input: &[u8], out: &mut [u8], work: &mut [u64]) -> Answer {
+    library::judge_plain(input, out, work).answer()
+}
+
 /// Judges one recording, and tells why the edge at a place of the reported cycle is there.
 ///
 /// Places count from 0; the last edge goes back to the cycle's first transaction. Output and work
@@ -113,12 +145,54 @@ pub fn why(input: &[u8], out: &mut [u8], work: &mut [u64], place: usize) -> Told
     library::why(input, out, work, place).told()
 }
 
+/// Draws the transactions and edges of one recording in the DOT language, also of a violation: how
+/// many bytes of text stand at the front of the output.
+///
+/// Refusal 3, tried last, says that the text doesn't fit; the output is then as it was and the work
+/// area's first 4,096 numbers are 0. After any other refusal both are as they were.
+pub fn dot(input: &[u8], out: &mut [u8], work: &mut [u64]) -> Result<u64, Refusal> {
+    library::dot(input, out, work).written().map(|(bytes, _)| bytes)
+}
+
+/// Puts a yield before each record of one recording that would be a violation; the finished
+/// recording stands at the front of the output.
+///
+/// Refusal 3 says that the output has fewer than 8,192 bytes. 15 (over 1,024 records) and 13 may come
+/// from the walk itself: the output is then as it was and the work area's first 4,096 numbers are 0.
+pub fn propose(input: &[u8], out: &mut [u8], work: &mut [u64]) -> Result<Proposed, Refusal> {
+    library::propose(input, out, work).written().map(|(bytes, yields)| Proposed { bytes, yields })
+}
+
 #[cfg(linked)]
 mod library {
     use super::{Numbers, Values};
 
     extern "C" {
         fn quelohuite_judge(
+            input: *const u8,
+            input_length: usize,
+            output: *mut u8,
+            output_length: usize,
+            work: *mut u64,
+            work_length: usize,
+        ) -> Numbers;
+        fn quelohuite_judge_plain(
+            input: *const u8,
+            input_length: usize,
+            output: *mut u8,
+            output_length: usize,
+            work: *mut u64,
+            work_length: usize,
+        ) -> Numbers;
+        fn quelohuite_dot(
+            input: *const u8,
+            input_length: usize,
+            output: *mut u8,
+            output_length: usize,
+            work: *mut u64,
+            work_length: usize,
+        ) -> Numbers;
+        fn quelohuite_propose(
             input: *const u8,
             input_length: usize,
             output: *mut u8,
@@ -137,10 +211,14 @@ mod library {
         ) -> Values;
     }
 
-    pub fn judge(input: &[u8], out: &mut [u8], work: &mut [u64]) -> Numbers {
+    /// The type of all that answer in three numbers.
+    type Judges =
+        unsafe extern "C" fn(*const u8, usize, *mut u8, usize, *mut u64, usize) -> Numbers;
+
+    fn by(judges: Judges, input: &[u8], out: &mut [u8], work: &mut [u64]) -> Numbers {
         // The function asks nothing of its slices save that they are slices and don't overlap.
         unsafe {
-            quelohuite_judge(
+            judges(
                 input.as_ptr(),
                 input.len(),
                 out.as_mut_ptr(),
@@ -149,6 +227,22 @@ mod library {
                 work.len(),
             )
         }
+    }
+
+    pub fn judge(input: &[u8], out: &mut [u8], work: &mut [u64]) -> Numbers {
+        by(quelohuite_judge, input, out, work)
+    }
+
+    pub fn judge_plain(input: &[u8], out: &mut [u8], work: &mut [u64]) -> Numbers {
+        by(quelohuite_judge_plain, input, out, work)
+    }
+
+    pub fn dot(input: &[u8], out: &mut [u8], work: &mut [u64]) -> Numbers {
+        by(quelohuite_dot, input, out, work)
+    }
+
+    pub fn propose(input: &[u8], out: &mut [u8], work: &mut [u64]) -> Numbers {
+        by(quelohuite_propose, input, out, work)
     }
 
     pub fn why(input: &[u8], out: &mut [u8], work: &mut [u64], place: usize) -> Values {
@@ -247,9 +341,25 @@ mod library {
             .expect("the server over the library replies")
     }
 
-    pub fn judge(input: &[u8], out: &mut [u8], work: &mut [u64]) -> Numbers {
-        let [kind, first, second, ..] = ask(0, 0, input, out, work);
+    fn by(function: u64, input: &[u8], out: &mut [u8], work: &mut [u64]) -> Numbers {
+        let [kind, first, second, ..] = ask(function, 0, input, out, work);
         Numbers { kind, first, second }
+    }
+
+    pub fn judge(input: &[u8], out: &mut [u8], work: &mut [u64]) -> Numbers {
+        by(0, input, out, work)
+    }
+
+    pub fn judge_plain(input: &[u8], out: &mut [u8], work: &mut [u64]) -> Numbers {
+        by(2, input, out, work)
+    }
+
+    pub fn dot(input: &[u8], out: &mut [u8], work: &mut [u64]) -> Numbers {
+        by(3, input, out, work)
+    }
+
+    pub fn propose(input: &[u8], out: &mut [u8], work: &mut [u64]) -> Numbers {
+        by(4, input, out, work)
     }
 
     pub fn why(input: &[u8], out: &mut [u8], work: &mut [u64], place: usize) -> Values {

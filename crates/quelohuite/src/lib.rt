@@ -1,10 +1,15 @@
-// The checker for C and Rust: exported functions over `fast::judge`, `checker::judge` and `reasons::why`, each with its whole promise.
+// The checker for C and Rust: exported functions over `fast::judge`, `checker::judge`, `reasons::why`,
+// `picture::draw` and `proposal::propose`, each with its whole promise.
 use checker::Answer;
+use picture::Drawn;
+use proposal::Proposed;
 ghost use mathlib.Core.Path.{_≡_};
 ghost use mathlib.Core.List.{[], _∷_};
 ghost use Rattle.checker.specs.Verdict.{numbers};
 ghost use Rattle.checker.specs.Judged.{Judged, judged};
 ghost use Rattle.reasons.specs.Why as Why;
+ghost use Rattle.picture.specs.Drawn as Drawing;
+ghost use Rattle.proposal.specs.Proposed as Proposing;
 ghost use Rattle.quelohuite.specs.Told.{told, toldWhy, inFive};
 
 // An answer in numbers. Kind 0 is cooperable: records and transactions. Kind 1 is violation: record and cycle length.
@@ -119,4 +124,60 @@ pub extern "C" fn quelohuite_why(
 {
     let told = reasons::why(input, out, work, place);
     in_five(told)
+}
+
+// What drawing ends in, in numbers. Kind 0 is written: the number of bytes, and 0. Kind 2 is refused: number and record.
+fn drawn_in_numbers(d: Drawn) -> Told
+    ensures { λ r. ⌜ told r ≡ Drawing.numbers d ⌝ }
+{
+    match d {
+        Drawn::Written { bytes } => Told {
+            kind: 0,
+            first: bytes as u64,
+            second: 0,
+        },
+        Drawn::Refused(refusal) => Told {
+            kind: 2,
+            first: refusal.number as u64,
+            second: refusal.record as u64,
+        },
+    }
+}
+
+// Draws the graph of a recording: the answer in numbers, and the output and the work area at the end.
+#[no_mangle]
+pub extern "C" fn quelohuite_dot(input: &[u8], out: &mut [u8], work: &mut [u64]) -> Told
+    ensures { λ r. ⌜ _≡_ {A = Drawing.Ending} (record { answer = told r; out = now (out .exit); work = now (work .exit) })
+        (Drawing.drawn (now (input .entry)) (now (out .entry)) (now (work .entry))) ⌝ }
+{
+    let drawn = picture::draw(input, out, work);
+    drawn_in_numbers(drawn)
+}
+
+// What proposing ends in, in numbers. Kind 0 is proposed: the number of bytes, and of yields added. Kind 2 is refused: number and record.
+fn proposed_in_numbers(p: Proposed) -> Told
+    ensures { λ r. ⌜ told r ≡ Proposing.numbers p ⌝ }
+{
+    match p {
+        Proposed::Finished { bytes, yields } => Told {
+            kind: 0,
+            first: bytes as u64,
+            second: yields as u64,
+        },
+        Proposed::Refused(refusal) => Told {
+            kind: 2,
+            first: refusal.number as u64,
+            second: refusal.record as u64,
+        },
+    }
+}
+
+// Proposes yields for a recording: the answer in numbers, and the output and the work area at the end.
+#[no_mangle]
+pub extern "C" fn quelohuite_propose(input: &[u8], out: &mut [u8], work: &mut [u64]) -> Told
+    ensures { λ r. ⌜ _≡_ {A = Proposing.Ending} (record { answer = told r; out = now (out .exit); work = now (work .exit) })
+        (Proposing.proposed (now (input .entry)) (now (out .entry)) (now (work .entry))) ⌝ }
+{
+    let proposed = proposal::propose(input, out, work);
+    proposed_in_numbers(proposed)
 }
