@@ -1,5 +1,4 @@
 -- Any two answers that a promise permits are equal: the numbers of an answer tell the answer.
-use Prim.Native.Nat.{ℕ}
 use native.Mathlib.Omega.{arith}
 use mathlib.Core.Path.{_≡_, ap}
 use Rattle.checker.specs.declared.Answer.the-variants as Checker

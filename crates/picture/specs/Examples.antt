@@ -1,11 +1,11 @@
 -- Examples of pictures, proved of the definitions by computing them: P3 and P9 of document 01, which are violations, and every refusal of a sort.
-use Prim.Native.Nat.{ℕ, zero, suc, _+_}
+use Prim.Native.Nat.{ℕ, _+_}
 use mathlib.Core.Path.{_≡_, refl}
 use mathlib.Core.List.{List, [], _∷_, _++_}
 use lib.ListN.{replicate}
 use Rattle.record.specs.declared.Event.{Event}
 use Rattle.record.specs.declared.Op.{Op}
-use Rattle.record.specs.declared.Op.the-variants.{Read, Write, Acquire, Fork, Yield}
+use Rattle.record.specs.declared.Op.the-variants.{Read, Write, Fork, Yield}
 use Rattle.record.specs.Faults as Faults
 use Rattle.record.specs.Record as Record
 use Rattle.replay.specs.Machine as Machine

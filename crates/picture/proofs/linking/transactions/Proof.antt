@@ -7,7 +7,6 @@ use lib.ListN.{take}
 use mathlib.Core.Logic.{⊎-elim}
 use Rattle.picture.specs.Linking.{countedFrom}
 use Rattle.picture.proofs.Counts.{count-new, count-old}
-use borrow.Author.Needs.{needs}
 use Rattle.picture.proofs.linking.transactions.Statement.{statement}
 use Rattle.picture.proofs.linking.transactions.Tie as tie
 
