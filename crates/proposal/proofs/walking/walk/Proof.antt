@@ -70,9 +70,13 @@ loop-holds c =
     let a = c .before .before .before .before .before .before .args in
     let pre = c .before .before .before .before .before .before .pre in
     let w = c .before .before .begin in
-    let k : Kept = keptOf idle (w .last .0) (none-yet .current) 0 in
-    (omega arith, omega arith, refl, pre .1,
-    under-none (a .count) (a .t1) (w .last .0) (a .marks .now) k (pre .3) (pre .4) (represents-none k (a .work .now) (pre .2) refl (w .ensures) refl) refl)
+    let k : Kept = keptOf idle (w .last .0) (none-yet .current) 0 in (
+      omega arith,
+      omega arith,
+      refl,
+      pre .1,
+      under-none (a .count) (a .t1) (w .last .0) (a .marks .now) k (pre .3) (pre .4) (represents-none k (a .work .now) (pre .2) refl (w .ensures) refl) refl,
+    )
 
 mul-place : tie.Need-mul-place Inv-loop μ-loop
 mul-place c = omega arith
@@ -125,11 +129,15 @@ loop-again c =
     let a = c .before .before .before .before .before .before .before .before .before .before .before .before .before .before .before .before .before .before .before .before .args in
     let p = c .before .before .before .place in
     let marks : List ℕ = set (at .marks) (at .i) (p .result .mark) in
-    let built : ℕ = at .built + (1 + p .result .mark) in
-    (omega arith, omega (arith, right (c .before) .mark-bit, at .inv .1), p .kept .1 .1 .1 .1 .0 ∙ at .inv .2, length-set (at .marks) (at .i) (p .result .mark) ∙ at .inv .3,
-    subst (Under (a .count) (a .t1) marks (rowsAt (c .before .before .before .before .before .before .before .before .before .before .before .before .before)) (stepAt (c .before) .kept) built) (sym (add-one (at .i)))
-    (under-next (a .count) (a .t1) (rowsAt (c .before .before .before .before .before .before .before .before .before .before .before .before .before)) (at .marks) (keptAt (c .before .before .before .before .before .before .before .before .before .before .before .before .before)) (at .built) (at .i) (at .inv .4) (c .before .before .before .before .before .before .before .before .before .before .before .before .loop-test .taken) (most (c .before .before .before .before .before .before .before .before .before .before .before .before .before))
-    (stepAt (c .before)) (right (c .before)) (c .if1 .left) (omega (arith, at .inv .3, c .before .before .before .before .before .before .before .before .before .before .before .before .loop-test .taken, c .before .before .before .before .before .before .before .before .before .before .before .before .before .before .before .before .before .before .before .before .pre .0)) built refl))
+    let built : ℕ = at .built + (1 + p .result .mark) in (
+      omega arith,
+      omega (arith, right (c .before) .mark-bit, at .inv .1),
+      p .kept .1 .1 .1 .1 .0 ∙ at .inv .2,
+      length-set (at .marks) (at .i) (p .result .mark) ∙ at .inv .3,
+      subst (Under (a .count) (a .t1) marks (rowsAt (c .before .before .before .before .before .before .before .before .before .before .before .before .before)) (stepAt (c .before) .kept) built) (sym (add-one (at .i)))
+          (under-next (a .count) (a .t1) (rowsAt (c .before .before .before .before .before .before .before .before .before .before .before .before .before)) (at .marks) (keptAt (c .before .before .before .before .before .before .before .before .before .before .before .before .before)) (at .built) (at .i) (at .inv .4) (c .before .before .before .before .before .before .before .before .before .before .before .before .loop-test .taken) (most (c .before .before .before .before .before .before .before .before .before .before .before .before .before))
+          (stepAt (c .before)) (right (c .before)) (c .if1 .left) (omega (arith, at .inv .3, c .before .before .before .before .before .before .before .before .before .before .before .before .loop-test .taken, c .before .before .before .before .before .before .before .before .before .before .before .before .before .before .before .before .before .before .before .before .pre .0)) built refl),
+    )
 
 same-length-3 : tie.Need-same-length-3 Inv-loop μ-loop
 same-length-3 c = c .before .loop .inv .3 ∙ sym (c .before .before .before .before .before .before .before .before .pre .1)
