@@ -96,7 +96,7 @@ module _ (input out work : List ℕ) where
 
 -- ---- At most 512 transactions
 
-counted-few : (s : Tally) (e : Event) → s .count ≤ 512 → full s e ≡ false → tallied s e .count ≤ 512
+pub counted-few : (s : Tally) (e : Event) → s .count ≤ 512 → full s e ≡ false → tallied s e .count ≤ 512
 unfolding full
 counted-few s e h f = by (begins s e)
     (λ b. omega (arith, count-begun s e b, leb-false 512 (s .count) (ap (λ t. t && leb 512 (s .count)) (sym b) ∙ f)))

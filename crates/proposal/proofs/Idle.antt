@@ -1,10 +1,11 @@
 -- Where a yield is possible: a thread in the middle of a transaction waits on nothing.
 use Prim.Native.Nat.{ℕ, zero, suc}
+use native.Mathlib.Omega.{arith}
 use mathlib.Core.Path.{_≡_, refl, sym, ap, _∙_, subst}
 use mathlib.Core.Logic.{_≢_}
 use mathlib.Core.Bool.{true, false, cond, _||_}
 use mathlib.Core.List.{List, [], _∷_}
-use lib.ListN.{getD, set, replicate}
+use lib.ListN.{getD, set}
 use lib.Seq.{getD-set-other}
 use lib.Dec.{T, eqb}
 use borrow.Author.Tests.{eq-eqb}
@@ -17,7 +18,7 @@ use Rattle.replay.specs.declared.State.{State}
 use Rattle.replay.specs.Machine.{fresh, forked, waitless, waitsOn, lifeOf, waitOf, waitBefore, finds, checks, faultOf, act, next, after, possible}
 use Rattle.trace.proofs.Tests.{by, by-same, T-of}
 use Rattle.graph.specs.Transactions.{Tally, none-yet, currentOf, begins, belongs, ends, tallied, tallyFrom}
-use Rattle.graph.proofs.Numbers.{current-other, open-of}
+use Rattle.graph.proofs.Numbers.{sane-none, current-other, open-of}
 use Rattle.proposal.specs.Walk.{yieldOf}
 use Rattle.proposal.proofs.Orders.{found, first-fine}
 
@@ -86,12 +87,7 @@ idle-after s c (e ∷ es) p idle = let a = first-fine s e es p in idle-after (ne
 
 pub idle-fresh : Idle fresh none-yet
 unfolding none-yet
-idle-fresh t opened = absurd (opened (zeros 16 t))
-  where
-    zeros : (n t : ℕ) → _≡_ {A = ℕ} (getD (replicate n 0) t 0) 0
-    zeros zero t = refl
-    zeros (suc n) zero = refl
-    zeros (suc n) (suc t) = zeros n t
+idle-fresh t opened = absurd (opened (omega (arith, sane-none t)))
 
 -- a yield is possible where its thread's next event is possible and doesn't begin a transaction
 pub yield-possible : (s : State) (c : Tally) (e : Event) → faultOf s e ≡ 0 → Idle s c → begins c e ≡ false → faultOf s (yieldOf (e .thread)) ≡ 0

@@ -7,7 +7,7 @@ use mathlib.Core.List.{List, [], _∷_, _++_}
 use lib.ListN.{length, getD, drop, length-append}
 use lib.Seq.{append-snoc}
 use lib.Dec.{T, eqb, leb, ltb}
-use borrow.Author.Tests.{le-leb, lt-leb, ltb-true, ltb-false, leb-true, leb-false}
+use borrow.Author.Tests.{le-leb, lt-leb, ltb-true, ltb-false, leb-true}
 use Rattle.record.specs.declared.Event.{Event}
 use Rattle.record.specs.Faults.{firstFault, check}
 use Rattle.trace.specs.Paths.{cyclic}
@@ -25,6 +25,7 @@ use Rattle.thin.specs.Cells.{idle, closing, Taken, taken}
 use Rattle.thin.proofs.Meet.{Orderly}
 use Rattle.thin.proofs.Agree as Agree
 use Rattle.thin.proofs.Right.{Holds, begun-holds, closing-right, Looks, looks-all, taken-right, taken-rest}
+use Rattle.checker.proofs.Reporting.{counted-few}
 use Rattle.proposal.specs.Walk.{yieldOf, needsYield, placed, grown, recordLimit, roomChecks}
 use Rattle.proposal.specs.Weaving.{placedAs}
 use Rattle.proposal.specs.Keeping.{Kept, needing, putIn, Stepping, stepAs, lastIn, stepping}
@@ -155,12 +156,6 @@ full-over s e h = by (begins s e)
     (λ b. omega (arith, count-begun s e b, leb-true 512 (s .count) (sym (ap (λ c. c && leb 512 (s .count)) b) ∙ h)))
     (λ b. absurd (subst T (sym (sym (ap (λ c. c && leb 512 (s .count)) b) ∙ h)) tt))
 
-full-few : (s : Tally) (e : Event) → s .count ≤ 512 → full s e ≡ false → tallied s e .count ≤ 512
-unfolding full
-full-few s e most h = by (begins s e)
-    (λ b. omega (arith, count-begun s e b, leb-false 512 (s .count) (sym (ap (λ c. c && leb 512 (s .count)) b) ∙ h)))
-    (λ b. omega (arith, count-unbegun s e b))
-
 -- ---- a step of the walk
 
 -- What a step answers and leaves
@@ -193,7 +188,7 @@ module _ (built : List Event) (e : Event) (es : List Event) (f : Fine built (e �
           represents = λ z. absurd (omega (arith, z));
           rest = kept;
         }))
-        (λ h. let few : tallied (tally front) e .count ≤ 512 = full-few (tally front) e (q .holds .most) (ap (λ t. full t e) (sym (q .tally-is)) ∙ h) in
+        (λ h. let few : tallied (tally front) e .count ≤ 512 = counted-few (tally front) e (q .holds .most) (ap (λ t. full t e) (sym (q .tally-is)) ∙ h) in
         subst (Right built k e) (sym (ap (λ b. cond b (stepAs 13 mark j) (stepAs 0 mark (putIn j e))) h)) (record {
           number-is = sym (room-none built e short (omega (arith, transactions-are)));
           placed-is = as-placed;
