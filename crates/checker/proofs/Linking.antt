@@ -45,15 +45,15 @@ module _ (n : ℕ) (labels : List ℕ) (a : ℕ) where
   from-next : (i : ℕ) → i < n → from i (n - i) ≡ i ∷ from (suc i) (n - suc i)
   from-next i h = from-step i n h ∙ ap (λ k. i ∷ from k (n - k)) (add-one i)
 
-  pub first-hit : (i : ℕ) → i < n → getD labels i 0 ≡ a → firstFrom n labels a i ≡ i
+  first-hit : (i : ℕ) → i < n → getD labels i 0 ≡ a → firstFrom n labels a i ≡ i
   unfolding firstFrom
   first-hit i h q = ap (firstOf own noRecord) (from-next i h) ∙ first-true own noRecord i (from (suc i) (n - suc i)) (eq-eqb (getD labels i 0) a q)
 
-  pub first-miss : (i : ℕ) → i < n → getD labels i 0 ≢ a → firstFrom n labels a i ≡ firstFrom n labels a (suc i)
+  first-miss : (i : ℕ) → i < n → getD labels i 0 ≢ a → firstFrom n labels a i ≡ firstFrom n labels a (suc i)
   unfolding firstFrom
   first-miss i h q = ap (firstOf own noRecord) (from-next i h) ∙ first-false own noRecord i (from (suc i) (n - suc i)) (ne-eqb (getD labels i 0) a q)
 
-  pub first-end : (i : ℕ) → n ≤ i → firstFrom n labels a i ≡ noRecord
+  first-end : (i : ℕ) → n ≤ i → firstFrom n labels a i ≡ noRecord
   unfolding firstFrom firstOf
   first-end i h = ap (firstOf own noRecord) (from-none i n h)
 

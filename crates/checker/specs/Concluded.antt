@@ -41,8 +41,8 @@ pub record Concluded (es : List Event) (out out′ : List ℕ) (r : Answer) : Ty
   pub written : out′ ≡ over (verdict es .written) out
   pub all-named : namedIn r ≡ length (named es (shortest es))
 
--- What is left for the lines: of the named transactions at the front of the order, none for a refused recording, they are those to be reported; and the
--- labels are in range
+-- What judging leaves for the lines: the lines of the named transactions, which stand at the front of the order, are those to be reported. A refused
+-- recording names none; where some are named, the labels are in range
 pub record Told (input out work : List ℕ) (r : Answer) (all : List Event) (labels order : List ℕ) : Type 0 where
   pub lines-are : (old : List ℕ) → over (each (lineOf (length input / recordSize) all labels) (take (namedIn r) order)) old ≡ reported input out work old
   pub order-size : length order ≡ 512
