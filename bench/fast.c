@@ -69,11 +69,13 @@ static size_t fill_by_lasts(const struct history *h, uint64_t *rows) {
     for (size_t k = 0; k < h->records; k++) {
         struct taking taking = {rows, h->owner[k], 0, 0};
         uint64_t *row = rows + WORDS * taking.t;
-        if (begun <= taking.t) begun = taking.t + 1;
+        int new = taking.t == begun;
+        if (new) begun++;
         set_bit(row, taking.t);
         take_edges(&taking, &l, &h->events[k]);
         if (taking.cycle) return k;
-        if (!taking.grown) continue;
+        /* No row has a new transaction in it but its own. */
+        if (new || !taking.grown) continue;
         for (size_t d = 0; d < begun; d++)
             if (bit(rows + WORDS * d, taking.t)) join_rows(rows + WORDS * d, row);
     }
