@@ -32,7 +32,6 @@ static void call_c_fast(void) { call_all(fast_judge); }
 /* The library's one function has the plain engine, until it has two: then the one is fast, and the plain
    engine has a function of its own. bench/run finds out. */
 #ifdef BOTH_ENGINES
-judge_function quelohuite_judge_plain;
 static void call_plain(void) { call_all(quelohuite_judge_plain); }
 static void call_fast(void) { call_all(quelohuite_judge); }
 enum { FAST, PLAIN, C_FAST, C_PLAIN, SIDES };
@@ -145,9 +144,36 @@ static int measure_night(void) {
     return 1;
 }
 
+#ifdef BOTH_ENGINES
+static void call_propose(void) { call_all(quelohuite_propose); }
+
+/* Proposing yields beside judging the same recording, by either proved engine. */
+static void measure_proposing(void) {
+    static struct recording recording;
+    static timed *const beside[] = {call_propose, call_fast, call_plain};
+    double time[3];
+    first = &recording;
+    many = 1;
+    printf("\n%-24s %7s %7s  %14s  %14s\n", "proposing", "records", "yields", "propose / fast", "propose / plain");
+    for (size_t s = 0; s < shape_count; s++)
+        for (int size = 0; size < SIZES; size++) {
+            shapes[s].make(&recording, sizes[size]);
+            struct quelohuite_answer answer = call(quelohuite_propose, &recording, 0);
+            if (answer.kind != QUELOHUITE_DONE || recording.records == 0) continue;
+            time_in_turns(beside, time, 3, MANY_ROUNDS);
+            printf("%-24s %7lu %7lu  %14.2f  %14.2f\n", shapes[s].name, (unsigned long)recording.records,
+                   (unsigned long)answer.second, time[0] / time[1], time[0] / time[2]);
+        }
+}
+#else
+static void measure_proposing(void) {}
+#endif
+
 int main(void) {
     if (!measure_shapes()) return 1;
     print_growth();
     print_worst();
-    return measure_night() ? 0 : 1;
+    if (!measure_night()) return 1;
+    measure_proposing();
+    return 0;
 }
