@@ -3,7 +3,7 @@ use Prim.Native.Nat.{ℕ, zero, suc, _<_}
 use native.Mathlib.Omega.{arith}
 use mathlib.Core.Path.{_≡_, refl, sym, ap, _∙_, subst}
 use mathlib.Core.Logic.{_≢_, _⊎_, inl, inr}
-use mathlib.Core.Bool.{Bool, true, false, _&&_}
+use mathlib.Core.Bool.{true, _&&_}
 use mathlib.Core.List.{List, [], _∷_}
 use borrow.Author.Tests.{eq-eqb}
 use lib.Dec.{T, eqb, leb, eqb→eq, leb→le}
@@ -12,8 +12,9 @@ use lib.Seq.{getD-set-same, getD-set-other}
 use Rattle.record.specs.declared.Event.{Event}
 use Rattle.record.specs.declared.Op.{Op}
 use Rattle.record.specs.declared.Op.the-variants.{Read, Write, Acquire, Release, Prewait, Postwait, Notify, Fork, Join, Yield}
-use Rattle.record.specs.Faults.{Check, check, firstFault}
+use Rattle.record.specs.Faults.{firstFault}
 use Rattle.record.specs.Record.{kind, target, value, targetLimit, inRange}
+use Rattle.record.proofs.Laws.{none-first}
 use Rattle.replay.specs.declared.State.{State}
 use Rattle.replay.specs.Machine as Machine
 use Rattle.trace.proofs.Tests.{by, by-same, T-of, or-left, or-right, and-left, and-right, and-both}
@@ -30,33 +31,17 @@ use Rattle.checker.proofs.Demand3 as Demand3
 
 -- ---- what a possible event finds
 
-passes : (n : ℕ) (b : Bool) (cs : List Check) → n ≢ 0 → firstFault (check n 0 b ∷ cs) ≡ 0 → (b ≡ true) × (firstFault cs ≡ 0)
-unfolding firstFault
-passes n true cs ne h = (refl, h)
-passes n false cs ne h = absurd (ne h)
-
-eight : _≢_ {A = ℕ} 8 0
-eight e = omega arith
-
-nine : _≢_ {A = ℕ} 9 0
-nine e = omega arith
-
-eleven : _≢_ {A = ℕ} 11 0
-eleven e = omega arith
-
 alive : (s : State) (e : Event) → Machine.faultOf s e ≡ 0 → (Machine.lifeOf s (e .thread) ≡ Machine.forked) × (firstFault (Machine.finds s (e .thread) (e .op)) ≡ 0)
 unfolding Machine.faultOf Machine.checks
 alive s e h =
-    let life = eqb (Machine.lifeOf s (e .thread)) Machine.forked in
-    let wait = eqb (Machine.waitOf s (e .thread)) (Machine.waitBefore (e .op)) in
-    let a = passes 8 life (check 9 0 wait ∷ Machine.finds s (e .thread) (e .op)) eight h in
-    let b = passes 9 wait (Machine.finds s (e .thread) (e .op)) nine (a .1) in
+    let a = none-first 8 0 (eqb (Machine.lifeOf s (e .thread)) Machine.forked) _ (omega arith) h in
+    let b = none-first 9 0 (eqb (Machine.waitOf s (e .thread)) (Machine.waitBefore (e .op))) _ (omega arith) (a .1) in
     (eqb→eq (Machine.lifeOf s (e .thread)) Machine.forked (T-of (a .0)), b .1)
 
 -- who is forked was not, and then is; who is joined then is
 free : (s : State) (t : ℕ) (o : Op) → firstFault (Machine.finds s t o) ≡ 0 → T (forks o) → Machine.lifeOf s (target o) ≡ Machine.unforked
 unfolding Machine.finds forks
-free s t (Fork u) h f = eqb→eq (Machine.lifeOf s u) Machine.unforked (T-of (passes 11 (eqb (Machine.lifeOf s u) Machine.unforked) [] eleven h .0))
+free s t (Fork u) h f = eqb→eq (Machine.lifeOf s u) Machine.unforked (T-of (none-first 11 0 (eqb (Machine.lifeOf s u) Machine.unforked) [] (omega arith) h .0))
 free s t (Read x v) h f = absurd f
 free s t (Write x v) h f = absurd f
 free s t (Acquire m) h f = absurd f

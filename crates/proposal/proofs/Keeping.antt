@@ -24,7 +24,7 @@ use Rattle.graph.proofs.Steps.{among-first, before-first}
 use Rattle.thin.specs.Cells.{idle, closing, Taken, taken}
 use Rattle.thin.proofs.Meet.{Orderly}
 use Rattle.thin.proofs.Agree as Agree
-use Rattle.thin.proofs.Right.{Holds, begun-holds, closing-right, Looks, looks-all, taken-right, taken-rest}
+use Rattle.thin.proofs.Right.{Holds, begun-holds, closing-right, Looks, looks-all, taken-right, taken-kept}
 use Rattle.checker.proofs.Reporting.{counted-few}
 use Rattle.proposal.specs.Walk.{yieldOf, needsYield, placed, grown, recordLimit, roomChecks}
 use Rattle.proposal.specs.Weaving.{placedAs}
@@ -109,7 +109,7 @@ module _ (built : List Event) (e : Event) where
 
       pub put-rest : drop 4096 (putIn k e .rows) ≡ drop 4096 (k .rows)
       put-rest = ap (λ j. drop 4096 (j .rows)) put-is
-          ∙ taken-rest (labelled built) x ok-more (k .cells) (k .rows) (tally built .count) (r .holds) small (tallied (tally built) e .count) few looks
+          ∙ taken-kept (labelled built) x ok-more (k .cells) (k .rows) (tally built .count) (r .holds) small (tallied (tally built) e .count) few looks .rest
 
     -- ---- whether an event needs a yield
 
