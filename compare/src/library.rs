@@ -1,5 +1,6 @@
 //! The library's functions, with their answers said as the reference says them.
 
+use reference::propose::Written;
 use reference::why::{Reason, Why};
 use reference::{Answer, Refusal};
 
@@ -9,8 +10,12 @@ pub fn dot(input: &[u8], out: &mut [u8], work: &mut [u64]) -> Result<usize, Refu
 }
 
 /// The recording with proposed yields.
-pub fn propose(input: &[u8], out: &mut [u8], work: &mut [u64]) -> Result<usize, Refusal> {
-    quelohuite::propose(input, out, work).map(|done| done.bytes as usize).map_err(refusal)
+pub fn propose(input: &[u8], out: &mut [u8], work: &mut [u64]) -> Result<Written, Refusal> {
+    let written = |done: quelohuite::Proposed| Written {
+        bytes: done.bytes as usize,
+        yields: done.yields as usize,
+    };
+    quelohuite::propose(input, out, work).map(written).map_err(refusal)
 }
 
 fn refusal(given: quelohuite::Refusal) -> Refusal {

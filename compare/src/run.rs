@@ -1,9 +1,10 @@
 //! The phases of a run, and what is said of a failing case.
 
+use std::fmt::Debug;
 use std::time::Instant;
 
 use reference::words::words_of_bytes;
-use reference::{MOST_BYTES, WORK_AREA};
+use reference::MOST_BYTES;
 
 use crate::case::Case;
 use crate::graphviz::Graphviz;
@@ -26,9 +27,6 @@ const MOST_SHOWN: usize = 20_000;
 
 /// Bytes of the longest fixed recording that yields are proposed for.
 const MOST_PROPOSED: usize = 8 * 512;
-
-/// No text or recording that is written is longer.
-const MOST_WRITTEN: usize = 4_000_000;
 
 /// Says in words what a case shows to differ.
 type Differs<'a> = &'a dyn Fn(&Case) -> Option<String>;
@@ -223,7 +221,8 @@ impl Run {
             inputs.extend([recordings::violation(&mut numbers), recordings::any(&mut numbers)]);
         }
         self.graphviz(&inputs);
-        self.written(library::dot, reference::dot::dot, 0, &inputs, &mut numbers);
+        let needed = |input: &[u8]| reference::dot::report(input).len();
+        self.written(library::dot, reference::dot::dot, needed, &inputs, &mut numbers);
         self.runs(Program::dot(), inputs);
     }
 
@@ -238,7 +237,7 @@ impl Run {
         inputs.extend(proposals::recordings(count, &mut numbers));
         proposals::print(&inputs);
         let reference = reference::propose::propose;
-        self.written(library::propose, reference, MOST_BYTES, &inputs, &mut numbers);
+        self.written(library::propose, reference, |_| MOST_BYTES, &inputs, &mut numbers);
         let Some(program) = self.found(Program::propose()) else { return };
         let file = proposals::new_file();
         for (place, input) in inputs.into_iter().enumerate() {
@@ -279,21 +278,17 @@ impl Run {
         println!("of pictures: {shown} read by Graphviz, the longest of {longest} bytes");
     }
 
-    /// A function of the library that writes, with the output that it needs, at least so many bytes,
-    /// and with more and less.
-    fn written(
+    /// A function of the library that writes, with the output that it needs, and with more and less.
+    fn written<A: Debug + PartialEq>(
         &mut self,
-        library: Writes,
-        reference: Writes,
-        least: usize,
+        library: Writes<A>,
+        reference: Writes<A>,
+        needed: impl Fn(&[u8]) -> usize,
         inputs: &[Vec<u8>],
         numbers: &mut Numbers,
     ) {
-        let mut room = vec![0; MOST_WRITTEN];
         for input in inputs {
-            let written = reference(input, &mut room, &mut [0; WORK_AREA]).unwrap_or(0);
-            let needed = written.max(least);
-            for case in writing::cases(input, needed, numbers) {
+            for case in writing::cases(input, needed(input), numbers) {
                 if self.failed < MOST_FAILURES {
                     self.check(&case, &|case| writing::compared(case, library, reference));
                 }

@@ -1,12 +1,15 @@
-//! Functions of the library that write something other than a judgement and give the number of bytes
-//! written: what both sides answer and leave, with outputs around the length that is needed.
+//! Functions of the library that write something other than a judgement: what both sides answer and
+//! leave, with outputs around the length that is needed.
+
+use std::fmt::Debug;
 
 use reference::{Refusal, WORK_AREA};
 
 use crate::case::{difference, Case};
 use crate::numbers::Numbers;
 
-pub type Writes = fn(&[u8], &mut [u8], &mut [u64]) -> Result<usize, Refusal>;
+/// It says how much was written.
+pub type Writes<A> = fn(&[u8], &mut [u8], &mut [u64]) -> Result<A, Refusal>;
 
 /// The recording with exactly the output that is needed, with one byte less, and with any length
 /// of output and work area.
@@ -28,7 +31,11 @@ pub fn cases(input: &[u8], needed: usize, numbers: &mut Numbers) -> Vec<Case> {
 }
 
 /// What the two sides differ in, in words.
-pub fn compared(case: &Case, library: Writes, reference: Writes) -> Option<String> {
+pub fn compared<A: Debug + PartialEq>(
+    case: &Case,
+    library: Writes<A>,
+    reference: Writes<A>,
+) -> Option<String> {
     let lent = case.lent();
     difference(&lent.left_by(library), &lent.left_by(reference))
 }

@@ -65,12 +65,20 @@ fn proposal(input: &[u8], out: &[u8], work: &mut [u64]) -> Result<Proposal, Refu
     walk(&events)
 }
 
-/// Writes the finished recording; gives the number of bytes written. A refusal leaves the output as
-/// it was; one in the walk has cleared the work area, any other leaves that too.
-pub fn propose(input: &[u8], out: &mut [u8], work: &mut [u64]) -> Result<usize, Refusal> {
-    let finished = encode_all(&proposal(input, out, work)?.events);
+/// How many bytes were written, and how many yields added.
+#[derive(Clone, Copy, Debug, PartialEq, Eq)]
+pub struct Written {
+    pub bytes: usize,
+    pub yields: usize,
+}
+
+/// Writes the finished recording. A refusal leaves the output as it was; one in the walk has cleared
+/// the work area, any other leaves that too.
+pub fn propose(input: &[u8], out: &mut [u8], work: &mut [u64]) -> Result<Written, Refusal> {
+    let Proposal { events, added } = proposal(input, out, work)?;
+    let finished = encode_all(&events);
     out[..finished.len()].copy_from_slice(&finished);
-    Ok(finished.len())
+    Ok(Written { bytes: finished.len(), yields: added.len() })
 }
 
 /// What the program does with a standard input.

@@ -1,7 +1,7 @@
 //! Proposed yields, with finished recordings and refusals written out by hand, and each finished
 //! recording held to what document 02 says of it.
 
-use reference::propose::{propose, report, walk, Added};
+use reference::propose::{propose, report, walk, Added, Written};
 use reference::record::{decode, encode_all, Event, Operation};
 use reference::words::events;
 use reference::{judge, Answer, Refusal};
@@ -23,7 +23,7 @@ fn finished(input: &[u8], room: usize, work_length: usize) -> Result<Vec<u8>, Re
     let mut out = vec![BEFORE; room];
     let mut work = vec![WORK_BEFORE; work_length];
     let result = propose(input, &mut out, &mut work);
-    let written = result.unwrap_or(0);
+    let written = result.map_or(0, |written| written.bytes);
     assert!(out[written..].iter().all(|byte| *byte == BEFORE));
     // 13 of the input leaves the work area, 13 of the walk clears it.
     let judged = judge(input, &mut vec![0; input.len()], &mut [0; 4096]);
@@ -32,7 +32,13 @@ fn finished(input: &[u8], room: usize, work_length: usize) -> Result<Vec<u8>, Re
     let (first, rest) = work.split_at(work_length.min(4096));
     assert!(first.iter().all(|number| *number == if cleared { 0 } else { WORK_BEFORE }));
     assert!(rest.iter().all(|number| *number == WORK_BEFORE));
-    result.map(|length| out[..length].to_vec())
+    let read = |record: &[u8]| decode(record).expect("a record without a fault");
+    if let Ok(Written { bytes, yields }) = result {
+        assert_eq!(bytes, input.len() + 8 * yields);
+        let proposal = walk(&input.chunks(8).map(read).collect::<Vec<Event>>());
+        assert_eq!(proposal.map(|proposal| proposal.added.len()), Ok(yields));
+    }
+    result.map(|written| out[..written.bytes].to_vec())
 }
 
 /// The finished recording is cooperable; it is the input once the added yields are taken out; and
