@@ -21,7 +21,7 @@ use Rattle.graph.specs.Edges.{edges}
 use Rattle.graph.proofs.Steps.{among-first}
 use Rattle.graph.proofs.Numbers.{sane-none, labels-lt, bounded-edges}
 use Rattle.checker.specs.Refusals.{events}
-use Rattle.checker.proofs.Ending.{each-each}
+use Rattle.checker.proofs.Written.{each-each}
 use Rattle.picture.specs.Picture.{opening, closing, transactionLine, edge, edgeLine, edgesFrom, edgesInOrder, drawing, picture}
 use Rattle.picture.specs.Drawn.{refusal, fitted, drawn}
 use Rattle.picture.specs.Meaning.{Earlier, Shows, roomForAll, Demanded}

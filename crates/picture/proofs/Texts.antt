@@ -10,7 +10,7 @@ use Rattle.trace.specs.Paths.{Edge, hasEdge}
 use Rattle.trace.proofs.Tests.{by}
 use Rattle.trace.proofs.Lists.{Among, keep-true, keep-false, keep-same, below-bound, from-step, from-none}
 use Rattle.rows.specs.Bits.{has}
-use Rattle.checker.proofs.Ending.{each-each}
+use Rattle.checker.proofs.Written.{each-each}
 use Rattle.decimal.specs.Decimal.{decimal}
 use Rattle.decimal.proofs.Decimals.{size-three}
 use Rattle.picture.specs.Picture.{opening, arrow, lineEnd, closing, transactionLine, edge, edgeLine, edgesFrom, edgesInOrder, drawing}
