@@ -8,3 +8,4 @@ pub mod Right
 pub mod Sources
 pub mod Searching
 pub mod Looping
+pub mod Examples
