@@ -8,21 +8,22 @@ use mathlib.Core.Logic.{_≢_}
 use mathlib.Core.Bool.{Bool, true, false, not, cond, _&&_, _||_, or-assoc, or-false, or-true, and-false}
 use mathlib.Core.List.{List, [], _∷_, _++_, map}
 use borrow.Author.Tests.{ne-eqb, le-leb, lt-leb, lt-ltb, le-ltb}
-use lib.Dec.{T}
+use lib.Dec.{T, eqb}
 use lib.ListN.{getD, set}
+use lib.Seq.{set-comm}
 use Rattle.record.specs.declared.Event.{Event}
 use Rattle.record.specs.declared.Op.{Op}
 use Rattle.record.specs.declared.Op.the-variants.{Read, Write, Acquire, Release, Prewait, Postwait, Notify, Fork, Join, Yield}
 use Rattle.record.specs.Record.{kind, target}
 use Rattle.trace.specs.Lists.{someOf, keep, from}
-use Rattle.trace.proofs.Tests.{by}
+use Rattle.trace.proofs.Tests.{by, by-same, T-of, T-is, or-cases, or-left, or-right, and-left}
 use Rattle.trace.proofs.Lists.{Among, keep-true, keep-false, some-cons, among-map, map-append, map-map, below-has}
 use Rattle.rows.specs.Bits.{has, joined}
 use Rattle.graph.specs.Transactions.{transactionLimit}
 use Rattle.graph.proofs.Ends.{some-append}
-use Rattle.thin.specs.Cells.{Cells, cellsOf, Key, cell, putAll, asked, asks, held, readersOf, isOther, others, sources, stored, closing, gathered, spreadTo, closedRows, takenAs, taken}
+use Rattle.thin.specs.Cells.{Cells, cellsOf, Key, cell, put, putAll, asked, asks, held, readersOf, isOther, others, sources, stored, closing, gathered, meeting, spreadTo, closedRows, takenAs, taken, closingNew}
 use Rattle.thin.proofs.Gathering.{none-new}
-use Rattle.thin.specs.Engine.{askedBy, heldBy, readersFrom, leads, isNew, withOne, someNew, withAll, Joins}
+use Rattle.thin.specs.Engine.{askedBy, heldBy, readersFrom, leads, isNew, withOne, someNew, withAll, someBack, codeOf, more, Joins}
 
 -- ---- the cells by kind and target
 
@@ -122,14 +123,29 @@ module _ (s : Cells) (t k x v : ℕ) where
   pub store-none : 9 ≤ k → s ≡ putAll s (heldBy t k x) v
   store-none p = ap (λ ks. putAll s ks v) (sym (held-none t k x p))
 
--- first the thread's own, and then the others
-pub stored-is : (locks threads writers readers after : List ℕ) (out : Cells) (a : ℕ) (e : Event) (k x : ℕ) → after ≡ set threads (e .thread) (a + 1) → k ≡ kind (e .op) → x ≡ target (e .op)
-    → out ≡ putAll (cellsOf locks after writers readers) (heldBy (e .thread) k x) (a + 1) → out ≡ stored (cellsOf locks threads writers readers) a e
+-- a cell that is put again with the same number
+set-both : (l : List ℕ) (i j v : ℕ) → set (set l i v) j v ≡ set (set l j v) i v
+set-both l i j v = by-same i j (λ e. ap (λ k. set (set l i v) k v) (sym e) ∙ ap (λ k. set (set l k v) i v) e) (λ ne. set-comm l i j v v ne)
+
+put-both : (s : Cells) (k : Key) (t v : ℕ) → put (put s k v) (Key.Thread t) v ≡ put (put s (Key.Thread t) v) k v
+put-both s (Key.Lock m) t v = refl
+put-both s (Key.Thread u) t v = ap (λ l. cellsOf (s .locks) l (s .writers) (s .readers)) (set-both (s .threads) u t v)
+put-both s (Key.Writer x) t v = refl
+put-both s (Key.Reader x u) t v = refl
+
+put-last : (s : Cells) (ks : List Key) (t v : ℕ) → put (putAll s ks v) (Key.Thread t) v ≡ putAll (put s (Key.Thread t) v) ks v
+put-last s [] t v = refl
+put-last s (k ∷ ks) t v = put-last (put s k v) ks t v ∙ ap (λ u. putAll u ks v) (put-both s k t v)
+
+-- first the others, and then the thread's own
+pub stored-is : (s : Cells) (locks threads writers readers after : List ℕ) (a : ℕ) (e : Event) (k x : ℕ) → k ≡ kind (e .op) → x ≡ target (e .op)
+    → cellsOf locks threads writers readers ≡ putAll s (heldBy (e .thread) k x) (a + 1) → after ≡ set threads (e .thread) (a + 1) → cellsOf locks after writers readers ≡ stored s a e
 unfolding stored
-stored-is locks threads writers readers after out a e k x h p q is =
-    is
-    ∙ ap₂ (λ l ks. putAll (cellsOf locks l writers readers) ks (a + 1)) h (ap₂ (heldBy (e .thread)) p q ∙ sym (held-by (e .thread) (e .op)))
-    ∙ ap (λ n. putAll (cellsOf locks (set threads (e .thread) n) writers readers) (held (e .thread) (e .op)) n) (add-one a)
+stored-is s locks threads writers readers after a e k x p q is h =
+    ap (λ l. cellsOf locks l writers readers) h
+    ∙ ap (λ u. put u (Key.Thread (e .thread)) (a + 1)) is
+    ∙ put-last s (heldBy (e .thread) k x) (e .thread) (a + 1)
+    ∙ ap₂ (λ ks n. putAll (put s (Key.Thread (e .thread)) n) ks n) (ap₂ (heldBy (e .thread)) p q ∙ sym (held-by (e .thread) (e .op))) (add-one a)
 
 -- ---- what cells hold, one after the other
 
@@ -227,11 +243,48 @@ some-is-new work a (c ∷ cs) = by (isOther a c)
     (λ e. ap (λ b. (b && not (has work a (pred c))) || someNew (cond (b && not (has work a (pred c))) (joined work a (pred c)) work) a cs) e ∙ some-is-new work a cs
     ∙ sym (ap (someOf (λ b. not (has work a b))) (others-false a c cs e)))
 
+pub back-is : (work : List ℕ) (a : ℕ) (cs : List ℕ) → someBack work a cs ≡ meeting work a (others a cs)
+unfolding someBack meeting others keep
+back-is work a [] = refl
+back-is work a (c ∷ cs) = by (isOther a c)
+    (λ e. ap (λ b. ((b && not (has work a (pred c))) && has work (pred c) a) || someBack (cond (b && not (has work a (pred c))) (joined work a (pred c)) work) a cs) e
+    ∙ ap (λ w. (not (has work a (pred c)) && has work (pred c) a) || w) (ap (λ w. someBack w a cs) (turned (has work a (pred c))) ∙ back-is (cond (has work a (pred c)) work (joined work a (pred c))) a cs)
+    ∙ ap (meeting work a) (sym (others-true a c cs e)))
+    (λ e. ap (λ b. ((b && not (has work a (pred c))) && has work (pred c) a) || someBack (cond (b && not (has work a (pred c))) (joined work a (pred c)) work) a cs) e
+    ∙ back-is work a cs ∙ ap (meeting work a) (sym (others-false a c cs e)))
+  where
+    turned : (b : Bool) → cond (not b) (joined work a (pred c)) work ≡ cond b work (joined work a (pred c))
+    turned true = refl
+    turned false = refl
+
 -- ---- rows joined, one cell after the other
 
-pub joins-none : (w : List ℕ) (a : ℕ) → Joins w a [] false w
-unfolding someNew withAll
-joins-none w a = record { new = refl; rows = refl }
+-- what is reached is new
+back-new : (w : List ℕ) (a : ℕ) (cs : List ℕ) → T (someBack w a cs) → T (someNew w a cs)
+unfolding someBack someNew
+back-new w a [] t = t
+back-new w a (c ∷ cs) t = or-cases (isNew w a c && has w (pred c) a) (someBack (withOne w a c) a cs) t
+    (λ u. or-left (isNew w a c) (someNew (withOne w a c) a cs) (and-left (isNew w a c) (has w (pred c) a) u))
+    (λ u. or-right (isNew w a c) (someNew (withOne w a c) a cs) (back-new (withOne w a c) a cs u))
+
+more-codes : (p q r s : Bool) → (T q → T p) → (T s → T r) → more (codeOf p q) (codeOf r s) ≡ codeOf (p || r) (q || s)
+more-codes true true true true f g = refl
+more-codes true true true false f g = refl
+more-codes true true false true f g = absurd (g tt)
+more-codes true true false false f g = refl
+more-codes true false true true f g = refl
+more-codes true false true false f g = refl
+more-codes true false false true f g = absurd (g tt)
+more-codes true false false false f g = refl
+more-codes false true r s f g = absurd (f tt)
+more-codes false false true true f g = refl
+more-codes false false true false f g = refl
+more-codes false false false true f g = absurd (g tt)
+more-codes false false false false f g = refl
+
+pub joins-none : (w : List ℕ) (a : ℕ) → Joins w a [] 0 w
+unfolding someNew someBack withAll
+joins-none w a = record { code = refl; rows = refl }
 
 new-append : (w : List ℕ) (a : ℕ) (cs ds : List ℕ) → someNew w a (cs ++ ds) ≡ (someNew w a cs || someNew (withAll w a cs) a ds)
 unfolding someNew withAll
@@ -239,63 +292,66 @@ new-append w a [] ds = refl
 new-append w a (c ∷ cs) ds =
     ap (λ b. isNew w a c || b) (new-append (withOne w a c) a cs ds) ∙ sym (or-assoc (isNew w a c) (someNew (withOne w a c) a cs) (someNew (withAll (withOne w a c) a cs) a ds))
 
+back-append : (w : List ℕ) (a : ℕ) (cs ds : List ℕ) → someBack w a (cs ++ ds) ≡ (someBack w a cs || someBack (withAll w a cs) a ds)
+unfolding someBack withAll
+back-append w a [] ds = refl
+back-append w a (c ∷ cs) ds =
+    ap (λ b. (isNew w a c && has w (pred c) a) || b) (back-append (withOne w a c) a cs ds)
+    ∙ sym (or-assoc (isNew w a c && has w (pred c) a) (someBack (withOne w a c) a cs) (someBack (withAll (withOne w a c) a cs) a ds))
+
 all-append : (w : List ℕ) (a : ℕ) (cs ds : List ℕ) → withAll w a (cs ++ ds) ≡ withAll (withAll w a cs) a ds
 unfolding withAll
 all-append w a [] ds = refl
 all-append w a (c ∷ cs) ds = all-append (withOne w a c) a cs ds
 
-pub joins-then : (u v w : List ℕ) (a : ℕ) (cs ds : List ℕ) (p q : Bool) → Joins u a cs p v → Joins v a ds q w → Joins u a (cs ++ ds) (p || q) w
-joins-then u v w a cs ds p q f g = record {
-  new = ap₂ (λ x y. x || y) (f .new) (g .new ∙ ap (λ l. someNew l a ds) (f .rows)) ∙ sym (new-append u a cs ds);
+pub joins-then : (u v w : List ℕ) (a : ℕ) (cs ds : List ℕ) (p q r : ℕ) → Joins u a cs p v → Joins v a ds q w → r ≡ more p q → Joins u a (cs ++ ds) r w
+joins-then u v w a cs ds p q r f g h = record {
+  code = h
+      ∙ ap₂ more (f .code) (g .code ∙ ap (λ l. codeOf (someNew l a ds) (someBack l a ds)) (f .rows))
+      ∙ more-codes (someNew u a cs) (someBack u a cs) (someNew (withAll u a cs) a ds) (someBack (withAll u a cs) a ds) (back-new u a cs) (back-new (withAll u a cs) a ds)
+      ∙ sym (ap₂ codeOf (new-append u a cs ds) (back-append u a cs ds));
   rows = g .rows ∙ ap (λ l. withAll l a ds) (f .rows) ∙ sym (all-append u a cs ds);
 }
 
-pub joins-true : (u v w : List ℕ) (a : ℕ) (cs ds : List ℕ) (p q : Bool) → Joins u a cs p v → Joins v a ds q w → q ≡ true → Joins u a (cs ++ ds) true w
-joins-true u v w a cs ds p q f g e = subst (λ b. Joins u a (cs ++ ds) b w) (ap (λ b. p || b) e ∙ or-true p) (joins-then u v w a cs ds p q f g)
-
-pub joins-false : (u v w : List ℕ) (a : ℕ) (cs ds : List ℕ) (p q : Bool) → Joins u a cs p v → Joins v a ds q w → q ≡ false → Joins u a (cs ++ ds) p w
-joins-false u v w a cs ds p q f g e = subst (λ b. Joins u a (cs ++ ds) b w) (ap (λ b. p || b) e ∙ or-false p) (joins-then u v w a cs ds p q f g)
-
 -- by the cells that are asked
-pub joins-asked : (s : Cells) (u w : List ℕ) (a k x : ℕ) (r : Bool) (ks : List Key) → askedBy k x ≡ ks → Joins u a (map (cell s) ks) r w → Joins u a (map (cell s) (askedBy k x)) r w
+pub joins-asked : (s : Cells) (u w : List ℕ) (a k x r : ℕ) (ks : List Key) → askedBy k x ≡ ks → Joins u a (map (cell s) ks) r w → Joins u a (map (cell s) (askedBy k x)) r w
 joins-asked s u w a k x r ks e f = subst (λ l. Joins u a (map (cell s) l) r w) (sym e) f
 
 -- first the thread's own, and then the others
-pub joins-asks : (s : Cells) (e : Event) (u v w : List ℕ) (a c k x : ℕ) (p q r : Bool) → c ≡ cell s (Key.Thread (e .thread)) → k ≡ kind (e .op) → x ≡ target (e .op)
-    → Joins u a (c ∷ []) p v → Joins v a (map (cell s) (askedBy k x)) q w → r ≡ (p || q) → Joins u a (map (cell s) (asks e)) r w
+pub joins-asks : (s : Cells) (e : Event) (u v w : List ℕ) (a c k x p q r : ℕ) → c ≡ cell s (Key.Thread (e .thread)) → k ≡ kind (e .op) → x ≡ target (e .op)
+    → Joins u a (c ∷ []) p v → Joins v a (map (cell s) (askedBy k x)) q w → r ≡ more p q → Joins u a (map (cell s) (asks e)) r w
 joins-asks s e u v w a c k x p q r own is-k is-x f g h =
-    subst (λ b. Joins u a (map (cell s) (asks e)) b w) (sym h)
-    (subst (λ n. Joins u a (n ∷ map (cell s) (asked (e .op))) (p || q) w) own
-    (joins-then u v w a (c ∷ []) (map (cell s) (asked (e .op))) p q f (subst (λ ks. Joins v a (map (cell s) ks) q w) (ap₂ askedBy is-k is-x ∙ sym (asked-by (e .op))) g)))
+    subst (λ n. Joins u a (n ∷ map (cell s) (asked (e .op))) r w) own
+    (joins-then u v w a (c ∷ []) (map (cell s) (asked (e .op))) p q r f (subst (λ ks. Joins v a (map (cell s) ks) q w) (ap₂ askedBy is-k is-x ∙ sym (asked-by (e .op))) g) h)
 
-pub joins-cell : (u w : List ℕ) (a c d : ℕ) (r : Bool) → c ≡ d → Joins u a (c ∷ []) r w → Joins u a (d ∷ []) r w
+pub joins-cell : (u w : List ℕ) (a c d r : ℕ) → c ≡ d → Joins u a (c ∷ []) r w → Joins u a (d ∷ []) r w
 joins-cell u w a c d r e f = subst (λ n. Joins u a (n ∷ []) r w) e f
 
--- one cell: no other transaction, one that is known, one that is new
-pub joins-out : (w : List ℕ) (a c : ℕ) → isOther a c ≡ false → Joins w a (c ∷ []) false w
-unfolding someNew withAll
-joins-out w a c e = record {
-  new = ap (λ b. (b && not (has w a (pred c))) || false) (sym e);
-  rows = ap (λ b. cond (b && not (has w a (pred c))) (joined w a (pred c)) w) (sym e);
+-- one cell: nothing new, or a transaction that is
+pub joins-old : (w : List ℕ) (a c : ℕ) → isNew w a c ≡ false → Joins w a (c ∷ []) 0 w
+unfolding someNew someBack withAll
+joins-old w a c e = record {
+  code = ap (λ b. codeOf (b || false) ((b && has w (pred c) a) || false)) (sym e);
+  rows = ap (λ b. cond b (joined w a (pred c)) w) (sym e);
 }
 
-pub joins-known : (w : List ℕ) (a c : ℕ) → isOther a c ≡ true → has w a (c - 1) ≡ true → Joins w a (c ∷ []) false w
-unfolding someNew withAll
-joins-known w a c e h =
-    let k : has w a (pred c) ≡ true = ap (has w a) (sym (pred-is c)) ∙ h in
-    record {
-      new = ap₂ (λ b d. (b && not d) || false) (sym e) (sym k);
-      rows = ap₂ (λ b d. cond (b && not d) (joined w a (pred c)) w) (sym e) (sym k);
-    }
+pub joins-new : (w v : List ℕ) (a c r : ℕ) → isNew w a c ≡ true → r ≡ cond (has w (c - 1) a) 2 1 → v ≡ joined w a (c - 1) → Joins w a (c ∷ []) r v
+unfolding someNew someBack withAll
+joins-new w v a c r e h is = record {
+  code = h ∙ ap (λ b. cond (has w b a) 2 1) (pred-is c) ∙ ap (λ b. cond b 2 1) (sym (or-false (has w (pred c) a)))
+      ∙ ap (λ b. codeOf (b || false) ((b && has w (pred c) a) || false)) (sym e);
+  rows = is ∙ ap (joined w a) (pred-is c) ∙ ap (λ b. cond b (joined w a (pred c)) w) (sym e);
+}
 
-pub joins-new : (w : List ℕ) (a c : ℕ) → isOther a c ≡ true → has w a (c - 1) ≡ false → Joins w a (c ∷ []) true (joined w a (c - 1))
-unfolding someNew withAll
-joins-new w a c e h =
-    let k : has w a (pred c) ≡ false = ap (has w a) (sym (pred-is c)) ∙ h in
-    record {
-      new = ap₂ (λ b d. (b && not d) || false) (sym e) (sym k);
-      rows = ap (joined w a) (pred-is c) ∙ ap₂ (λ b d. cond (b && not d) (joined w a (pred c)) w) (sym e) (sym k);
-    }
+-- a held number that is new
+pub new-some : (w : List ℕ) (a c : ℕ) → isNew w a c ≡ true → 1 ≤ c
+new-some w a c e = other-some a c (T-is (isOther a c) (and-left (isOther a c) (not (has w a (pred c))) (T-of e)))
+
+pub new-in : (w : List ℕ) (a c : ℕ) (r : Bool) → isOther a c ≡ true → r ≡ has w a (c - 1) → not r ≡ isNew w a c
+new-in w a c r e h = ap not (h ∙ ap (has w a) (pred-is c)) ∙ sym (ap (λ b. b && not (has w a (pred c))) e)
+
+pub new-out : (w : List ℕ) (a c : ℕ) → isOther a c ≡ false → false ≡ isNew w a c
+new-out w a c e = sym (ap (λ b. b && not (has w a (pred c))) e)
 
 -- ---- row a spread, one row more
 
@@ -309,18 +365,47 @@ pub taken-over : (s : Cells) (work : List ℕ) (n a : ℕ) (e : Event) → 512 �
 unfolding taken
 taken-over s work n a e h = sym (ap (λ b. cond b (takenAs (stored s a e) (closedRows work n a (sources s a e))) (takenAs s work)) (le-ltb a transactionLimit h))
 
-pub taken-under : (s : Cells) (work : List ℕ) (n a : ℕ) (e : Event) (out : Cells) (v w : List ℕ) (r : Bool) → a < 512 → out ≡ stored s a e
-    → Joins work a (map (cell s) (asks e)) r v → w ≡ cond r (spreadTo n v a) v → takenAs out w ≡ taken s work n a e
-unfolding taken closedRows sources
-taken-under s work n a e out v w r h is j k =
-    let bs : List ℕ = others a (map (cell s) (asks e)) in
-    let new : r ≡ someOf (λ b. not (has work a b)) bs = j .new ∙ some-is-new work a (map (cell s) (asks e)) in
-    let rows : v ≡ gathered work a bs = j .rows ∙ all-gathered work a (map (cell s) (asks e)) in
-    let last : w ≡ closedRows work n a bs = by r
-    (λ t. k ∙ ap (λ b. cond b (spreadTo n v a) v) t ∙ ap (λ l. spreadTo n l a) rows ∙ sym (ap (λ b. cond b (spreadTo n (gathered work a bs) a) work) (sym new ∙ t)))
-    (λ f. k ∙ ap (λ b. cond b (spreadTo n v a) v) f ∙ rows ∙ none-new work a bs (sym new ∙ f) ∙ sym (ap (λ b. cond b (spreadTo n (gathered work a bs) a) work) (sym new ∙ f))) in
-    ap₂ takenAs is last
-    ∙ sym (ap (λ b. cond b (takenAs (stored s a e) (closedRows work n a bs)) (takenAs s work)) (lt-ltb a transactionLimit h))
+pub closing-over : (s : Cells) (work : List ℕ) (a : ℕ) (e : Event) → 512 ≤ a → false ≡ closingNew s work a e
+unfolding closingNew
+closing-over s work a e h = sym (ap (λ b. b && meeting work a (sources s a e)) (le-ltb a transactionLimit h))
+
+module _ (s : Cells) (work : List ℕ) (n a : ℕ) (e : Event) (v : List ℕ) (r : ℕ) (h : a < 512) (j : Joins work a (map (cell s) (asks e)) r v) where
+  abbrev bs : List ℕ
+  bs = others a (map (cell s) (asks e))
+
+  new : not (eqb r 0) ≡ someOf (λ b. not (has work a b)) bs
+  new = ap (λ k. not (eqb k 0)) (j .code) ∙ tested (someNew work a (map (cell s) (asks e))) (someBack work a (map (cell s) (asks e))) ∙ some-is-new work a (map (cell s) (asks e))
+    where
+      tested : (p q : Bool) → not (eqb (codeOf p q) 0) ≡ p
+      tested true true = refl
+      tested true false = refl
+      tested false q = refl
+
+  -- the answer
+  pub closing-under : eqb r 2 ≡ closingNew s work a e
+  unfolding closingNew sources
+  closing-under =
+      ap (λ k. eqb k 2) (j .code)
+      ∙ tested (someNew work a (map (cell s) (asks e))) (someBack work a (map (cell s) (asks e))) (back-new work a (map (cell s) (asks e)))
+      ∙ back-is work a (map (cell s) (asks e))
+      ∙ sym (ap (λ b. b && meeting work a bs) (lt-ltb a transactionLimit h))
+    where
+      tested : (p q : Bool) → (T q → T p) → eqb (codeOf p q) 2 ≡ q
+      tested true true f = refl
+      tested true false f = refl
+      tested false true f = absurd (f tt)
+      tested false false f = refl
+
+  -- and what is left
+  pub taken-under : (out : Cells) (w : List ℕ) → out ≡ stored s a e → w ≡ cond (not (eqb r 0)) (spreadTo n v a) v → takenAs out w ≡ taken s work n a e
+  unfolding taken closedRows sources
+  taken-under out w is k =
+      let rows : v ≡ gathered work a bs = j .rows ∙ all-gathered work a (map (cell s) (asks e)) in
+      let last : w ≡ closedRows work n a bs = by (not (eqb r 0))
+      (λ t. k ∙ ap (λ b. cond b (spreadTo n v a) v) t ∙ ap (λ l. spreadTo n l a) rows ∙ sym (ap (λ b. cond b (spreadTo n (gathered work a bs) a) work) (sym new ∙ t)))
+      (λ f. k ∙ ap (λ b. cond b (spreadTo n v a) v) f ∙ rows ∙ none-new work a bs (sym new ∙ f) ∙ sym (ap (λ b. cond b (spreadTo n (gathered work a bs) a) work) (sym new ∙ f))) in
+      ap₂ takenAs is last
+      ∙ sym (ap (λ b. cond b (takenAs (stored s a e) (closedRows work n a bs)) (takenAs s work)) (lt-ltb a transactionLimit h))
 
 -- ---- the last readers of a variable
 
@@ -346,11 +431,20 @@ readers-next p readers x t e h =
     ∙ some-append p (readersFrom readers x 0 t) (getD readers (x * 16 + t) 0 ∷ [])
     ∙ ap₂ (λ b c. b || c) e (some-cons p (getD readers (x * 16 + t) 0) [] ∙ ap (λ b. b || false) h)
 
-pub readers-join : (u v w : List ℕ) (a : ℕ) (readers : List ℕ) (x t : ℕ) (p q : Bool) → Joins u a (readersFrom readers x 0 t) p v → Joins v a (getD readers (x * 16 + t) 0 ∷ []) q w
-    → Joins u a (readersFrom readers x 0 (t + 1)) (p || q) w
-readers-join u v w a readers x t p q f g =
-    subst (λ l. Joins u a l (p || q) w) (sym (ap (readersFrom readers x 0) (add-one t) ∙ readers-more readers x t))
-    (joins-then u v w a (readersFrom readers x 0 t) (getD readers (x * 16 + t) 0 ∷ []) p q f g)
+pub readers-join : (u v w : List ℕ) (a : ℕ) (readers : List ℕ) (x t p q r : ℕ) → Joins u a (readersFrom readers x 0 t) p v → Joins v a (getD readers (x * 16 + t) 0 ∷ []) q w → r ≡ more p q
+    → Joins u a (readersFrom readers x 0 (t + 1)) r w
+readers-join u v w a readers x t p q r f g h =
+    subst (λ l. Joins u a l r w) (sym (ap (readersFrom readers x 0) (add-one t) ∙ readers-more readers x t))
+    (joins-then u v w a (readersFrom readers x 0 t) (getD readers (x * 16 + t) 0 ∷ []) p q r f g h)
+
+-- one that isn't new
+pub readers-same : (u v w : List ℕ) (a : ℕ) (readers : List ℕ) (x t p r : ℕ) → Joins u a (readersFrom readers x 0 t) p v → Joins v a (getD readers (x * 16 + t) 0 ∷ []) 0 v → w ≡ v → r ≡ p
+    → Joins u a (readersFrom readers x 0 (t + 1)) r w
+readers-same u v w a readers x t p r f g is h =
+    subst (λ l. Joins u a (readersFrom readers x 0 (t + 1)) r l) (sym is) (readers-join u v v a readers x t p 0 r f g (h ∙ sym (more-zero p)))
+  where
+    more-zero : (n : ℕ) → more n 0 ≡ n
+    more-zero n = ap (λ b. cond b 0 n) (le-ltb n 0 (omega arith))
 
 pub readers-are : (s : Cells) (x : ℕ) → map (cell s) (readersOf x) ≡ readersFrom (s .readers) x 0 16
 readers-are s x = map-map (cell s) (Key.Reader x) (from 0 16)

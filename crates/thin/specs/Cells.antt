@@ -1,6 +1,6 @@
 -- The second engine (document 02, L7): what it keeps of the records so far, where the edges of a record come from, and what the record changes.
 use Prim.Native.Nat.{ℕ, zero, suc, pred, _+_, _*_}
-use mathlib.Core.Bool.{Bool, cond, not, _&&_}
+use mathlib.Core.Bool.{Bool, false, cond, not, _&&_, _||_}
 use mathlib.Core.List.{List, [], _∷_, map}
 use lib.Dec.{eqb, ltb}
 use lib.ListN.{getD, set, replicate}
@@ -115,6 +115,11 @@ unfoldable pub gathered : List ℕ → ℕ → List ℕ → List ℕ
 gathered work a [] = work
 gathered work a (b ∷ bs) = gathered (cond (has work a b) work (joined work a b)) a bs
 
+-- whether one of them that row a hasn't the bit of, as they come in, is reached from a
+unfoldable pub meeting : List ℕ → ℕ → List ℕ → Bool
+meeting work a [] = false
+meeting work a (b ∷ bs) = (not (has work a b) && has work b a) || meeting (cond (has work a b) work (joined work a b)) a bs
+
 -- row a is joined into each of the first n rows that has bit a
 unfoldable pub spreadTo : ℕ → List ℕ → ℕ → List ℕ
 spreadTo zero work a = work
@@ -136,7 +141,11 @@ takenAs s work = record { cells = s; rows = work }
 unfoldable pub taken : Cells → List ℕ → ℕ → ℕ → Event → Taken
 taken s work n a e = cond (ltb a transactionLimit) (takenAs (stored s a e) (closedRows work n a (sources s a e))) (takenAs s work)
 
+-- Whether that closes a cycle, by the sources that are new. Where the rows stand for edges without a cycle, it is `closing` (proofs/Meeting)
+unfoldable pub closingNew : Cells → List ℕ → ℕ → Event → Bool
+closingNew s work a e = ltb a transactionLimit && meeting work a (sources s a e)
+
 -- Everything above, opened at once, for a proof by computation: `unfolding opened`
 unfoldable pub opened : Unit {0}
-unfolding idle asked held others sources stored closing gathered spreadTo closedRows taken
+unfolding idle asked held others sources stored closing gathered meeting spreadTo closedRows taken closingNew
 opened = tt

@@ -4,7 +4,7 @@ use Prim.Native.Nat.{ℕ, suc, pred, _+_, _*_}
 use mathlib.Core.Path.{_≡_}
 use mathlib.Core.Bool.{Bool, true, false, cond, not, _&&_, _||_}
 use mathlib.Core.List.{List, [], _∷_, map}
-use lib.Dec.{eqb, leb}
+use lib.Dec.{eqb, leb, ltb}
 use lib.ListN.{getD}
 use Rattle.trace.specs.Lists.{from}
 use Rattle.record.specs.declared.Event.{Event}
@@ -52,9 +52,22 @@ unfoldable pub withAll : List ℕ → ℕ → List ℕ → List ℕ
 withAll work a [] = work
 withAll work a (c ∷ cs) = withAll (withOne work a c) a cs
 
+-- whether one that is new is reached from a
+unfoldable pub someBack : List ℕ → ℕ → List ℕ → Bool
+someBack work a [] = false
+someBack work a (c ∷ cs) = (isNew work a c && has work (pred c) a) || someBack (withOne work a c) a cs
+
+-- in a number: 0 where none is new, 2 where one that is new is reached from a, else 1
+abbrev pub codeOf : Bool → Bool → ℕ
+codeOf new back = cond new (cond back 2 1) 0
+
+-- the greater of two
+abbrev pub more : ℕ → ℕ → ℕ
+more x y = cond (ltb x y) y x
+
 -- What joining the rows of what some cells hold answers and leaves
-pub record Joins (before : List ℕ) (a : ℕ) (cs : List ℕ) (r : Bool) (after : List ℕ) : Type 0 where
-  pub new : r ≡ someNew before a cs
+pub record Joins (before : List ℕ) (a : ℕ) (cs : List ℕ) (r : ℕ) (after : List ℕ) : Type 0 where
+  pub code : r ≡ codeOf (someNew before a cs) (someBack before a cs)
   pub rows : after ≡ withAll before a cs
 
 -- ---- the walk over the records

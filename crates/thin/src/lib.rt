@@ -12,7 +12,7 @@ ghost use Prim.Native.Nat.{_≤_};
 ghost use lib.ListN.{take};
 ghost use Rattle.graph.specs.Arranged.{Arrangement, fits, arranged};
 ghost use Rattle.thin.specs.Orderly as Orderly;
-ghost use Rattle.thin.specs.Cells.{cellsOf, closing, takenAs, taken};
+ghost use Rattle.thin.specs.Cells.{cellsOf, closing, takenAs, taken, closingNew};
 
 // Whether an event of transaction a closes a cycle: a reaches one of its sources, by the rows. A cell holds 0, or a transaction and 1.
 pub fn closes(
@@ -42,8 +42,9 @@ pub fn closes(
     )
 }
 
-// Takes an event of transaction a in, with n rows to look at: the rows of its sources are joined into row a, where one is new row a is joined into
-// each row that has bit a, and the cells hold a from then on. There are rows for 512 transactions: of any other nothing changes.
+// Takes an event of transaction a in, with n rows to look at, and says whether that closes a cycle: the rows of its sources are joined into row a,
+// where one is new row a is joined into each row that has bit a, and the cells hold a from then on. There are rows for 512 transactions: of any other
+// nothing changes.
 pub fn take<'a>(
     locks: &'a mut [u16; 32],
     threads: &'a mut [u16; 16],
@@ -53,24 +54,37 @@ pub fn take<'a>(
     n: u16,
     a: u16,
     e: Event,
-)
-    ensures { λ _. ⌜ takenAs (cellsOf (now (locks .exit)) (now (threads .exit)) (now (writers .exit)) (now (readers .exit))) (now (work .exit))
-        ≡ taken (cellsOf (now (locks .entry)) (now (threads .entry)) (now (writers .entry)) (now (readers .entry))) (now (work .entry)) n a e ⌝ }
+) -> bool
+    ensures { λ r. ⌜ (let s = cellsOf (now (locks .entry)) (now (threads .entry)) (now (writers .entry)) (now (readers .entry)) in
+        (r ≡ closingNew s (now (work .entry)) a e)
+        × (takenAs (cellsOf (now (locks .exit)) (now (threads .exit)) (now (writers .exit)) (now (readers .exit))) (now (work .exit)) ≡ taken s (now (work .entry)) n a e)) ⌝ }
 {
     if a >= 512 {
-        return;
+        return false;
     }
-    if gather::join_all(&*locks, &*threads, &*writers, &*readers, &mut *work, a, e) {
-        gather::spread(&mut *work, n, a);
-    }
-    cells::store(
+    let t = e.thread;
+    let op = e.op;
+    let last = cells::entry(&*threads, t as usize);
+    let own = gather::join_one(&mut *work, a, last);
+    let kind = record::kind_of(op);
+    let target = record::target_of(op);
+    let rest = gather::take_target(
         &mut *locks,
         &mut *threads,
         &mut *writers,
         &mut *readers,
+        &mut *work,
         a,
-        e,
+        t,
+        kind,
+        target,
     );
+    cells::set_entry(&mut *threads, t as usize, a + 1);
+    let code = gather::more(own, rest);
+    if code != 0 {
+        gather::spread(&mut *work, n, a);
+    }
+    code == 2
 }
 
 // Whether the first count of the events, all where there are fewer, are orderly: in range; no thread forked twice, acting before its fork or after

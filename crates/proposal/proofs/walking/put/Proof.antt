@@ -23,7 +23,7 @@ same-length c = search needs
 returns : tie.Need-returns
 returns c =
     let n = c .before .before .before .before .before .before .before .before .before .before .before .before .number in
-    put-taken _ _ _ _ _ _ (sym (n .ensures .0) ∙ c .before .before .before .before .before .before .before .before .before .before .a .given .1) (n .ensures .1) (c .before .before .take .ensures)
+    put-taken _ _ _ _ _ _ (sym (n .ensures .0) ∙ c .before .before .before .before .before .before .before .before .before .before .a .given .1) (n .ensures .1) (c .before .before .take .ensures .1)
 
 returns-2 : tie.Need-returns-2
 returns-2 c = let n = c .before .before .number in put-full _ _ _ (sym (n .ensures .0) ∙ c .enum-told .given .1) (n .ensures .1)

@@ -4,19 +4,19 @@ use Prim.Native.Nat.{ℕ, _+_, _≤_, _-_}
 use native.Mathlib.Omega.{arith}
 use mathlib.Core.Path.{_≡_, refl, sym, ap, _∙_, subst}
 use mathlib.Core.Logic.{⊎-elim}
-use mathlib.Core.Bool.{Bool, _||_, or-true, or-false}
+use mathlib.Core.List.{List}
 use lib.ListN.{length}
 use Rattle.trace.specs.Lists.{from}
 use Rattle.thin.specs.Engine.{readersFrom, Joins}
-use Rattle.thin.proofs.Sources.{joins-none, readers-join}
+use Rattle.thin.proofs.Sources.{joins-none, joins-old, joins-new, new-some, readers-join, readers-same}
 use Rattle.thin.proofs.gather.join_readers.Statement.{statement}
 use Rattle.thin.proofs.gather.join_readers.Tie as tie
 
 abbrev Inv-loop : tie.InvT-loop
-Inv-loop readers work₀ a x first grown₀ t₀ work grown t = (t ≤ 16) × (length work ≡ length work₀) × Joins work₀ a (readersFrom readers x 0 t) grown work
+Inv-loop readers work₀ a x first code₀ t₀ work code t = (t ≤ 16) × (length work ≡ length work₀) × Joins work₀ a (readersFrom readers x 0 t) code work
 
 abbrev μ-loop : tie.MeasureT-loop
-μ-loop readers work₀ a x first grown₀ t₀ work grown t = 16 - t
+μ-loop readers work₀ a x first code₀ t₀ work code t = 16 - t
 
 mul-first : tie.Need-mul-first Inv-loop μ-loop
 mul-first c = omega arith
@@ -25,17 +25,26 @@ loop-holds : tie.Need-loop-holds Inv-loop μ-loop
 unfolding from
 loop-holds c = (omega arith, refl, joins-none _ _)
 
-add-join-one : tie.Need-add-join-one Inv-loop μ-loop
-add-join-one c = omega arith
+add-held : tie.Need-add-held Inv-loop μ-loop
+add-held c = omega arith
 
-mul-join-one : tie.Need-mul-join-one Inv-loop μ-loop
-mul-join-one c = omega arith
+mul-held : tie.Need-mul-held Inv-loop μ-loop
+mul-held c = omega arith
 
-element-copy-out-join-one : tie.Need-element-copy-out-join-one Inv-loop μ-loop
-element-copy-out-join-one c = omega arith
+element-copy-out-held : tie.Need-element-copy-out-held Inv-loop μ-loop
+element-copy-out-held c = omega arith
 
-join-one-requires : tie.Need-join-one-requires Inv-loop μ-loop
-join-one-requires c κs = search needs
+is-new-requires : tie.Need-is-new-requires Inv-loop μ-loop
+is-new-requires c κs = search needs
+
+sub-join-new : tie.Need-sub-join-new Inv-loop μ-loop
+sub-join-new c = new-some _ _ _ (sym (c .before .before .is-new .ensures) ∙ c .before .if1 .taken)
+
+join-new-requires : tie.Need-join-new-requires Inv-loop μ-loop
+join-new-requires c κs = search needs
+
+more-requires : tie.Need-more-requires Inv-loop μ-loop
+more-requires c κs = search needs
 
 add-t : tie.Need-add-t Inv-loop μ-loop
 add-t c = omega arith
@@ -45,18 +54,17 @@ loop-less c = omega arith
 
 loop-again : tie.Need-loop-again Inv-loop μ-loop
 loop-again c =
-    let at = c .before .before .before .before .before .before .before .loop in
-    let a = c .before .before .before .before .before .before .before .before .before .args in
-    let f = c .before .before .before .join-one in
-    let now-grown : c .if1 .grown ≡ (at .grown || f .result) =
-    ⊎-elim
-    (λ w. w .1 ∙ sym (ap (λ (b : Bool). at .grown || b) (w .0 .taken) ∙ or-true (at .grown)))
-    (λ w. w .1 ∙ sym (ap (λ (b : Bool). at .grown || b) (w .0 .left) ∙ or-false (at .grown)))
-    (c .if1 .came) in (
+    let at = c .before .before .before .before .before .loop in
+    let a = c .before .before .before .before .before .before .before .args in
+    let isNew = c .before .is-new .ensures in (
       omega arith,
-      f .kept .0 ∙ at .inv .1,
-      subst (λ (b : Bool). Joins (a .work .now) (a .a) (readersFrom (a .readers .now) (a .x) 0 (at .t + 1)) b (f .last .0)) (sym now-grown)
-          (readers-join (a .work .now) (at .work) (f .last .0) (a .a) (a .readers .now) (a .x) (at .t) (at .grown) (f .result) (at .inv .2) (f .ensures)),
+      ⊎-elim (λ w. ap length (w .6) ∙ w .2 .kept .0 ∙ at .inv .1) (λ w. ap length (w .1) ∙ at .inv .1) (c .if1 .came),
+      ⊎-elim
+          (λ w. readers-join (a .work .now) (at .work) (c .if1 .work) (a .a) (a .readers .now) (a .x) (at .t) (at .code) (w .2 .result) (c .if1 .code) (at .inv .2)
+          (joins-new (at .work) (c .if1 .work) (a .a) _ (w .2 .result) (sym isNew ∙ w .0 .taken) (w .2 .ensures .0) (w .6 ∙ w .2 .ensures .1)) (w .7 ∙ w .5 .ensures))
+          (λ w. readers-same (a .work .now) (at .work) (c .if1 .work) (a .a) (a .readers .now) (a .x) (at .t) (at .code) (c .if1 .code) (at .inv .2)
+          (joins-old (at .work) (a .a) _ (sym isNew ∙ w .0 .left)) (w .1) (w .2))
+          (c .if1 .came),
     )
 
 same-length : tie.Need-same-length Inv-loop μ-loop
@@ -67,7 +75,7 @@ returns c =
     let at = c .before .loop in
     let a = c .before .before .before .args in
     let e : at .t ≡ 16 = omega arith in
-    subst (λ (n : ℕ). Joins (a .work .now) (a .a) (readersFrom (a .readers .now) (a .x) 0 n) (at .grown) (at .work)) e (at .inv .2)
+    subst (λ (n : ℕ). Joins (a .work .now) (a .a) (readersFrom (a .readers .now) (a .x) 0 n) (at .code) (at .work)) e (at .inv .2)
 
 pub join-readers-spec : {M : Type 1} → statement M
 join-readers-spec =
@@ -77,10 +85,13 @@ join-readers-spec =
     μ-loop
     mul-first
     loop-holds
-    add-join-one
-    mul-join-one
-    element-copy-out-join-one
-    join-one-requires
+    add-held
+    mul-held
+    element-copy-out-held
+    is-new-requires
+    sub-join-new
+    join-new-requires
+    more-requires
     add-t
     loop-less
     loop-again
