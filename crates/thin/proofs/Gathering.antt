@@ -9,17 +9,17 @@ use lib.Dec.{T, ltb}
 use lib.ListN.{length}
 use lib.Seq.{append-snoc}
 use Rattle.trace.specs.Lists.{someOf}
-use Rattle.trace.specs.Paths.{Edge, reaches}
+use Rattle.trace.specs.Paths.{Edge, Path, reaches, cyclic}
 use Rattle.trace.proofs.Tests.{by, by-same, T-of, or-cases, or-left, or-right, and-left, and-right, same-test, or-false-both, not-false, or-and-self}
 use Rattle.trace.proofs.Lists.{Among, some-cons, some-same, some-has, some-at, Holds}
-use Rattle.trace.proofs.Reach.{sound, complete, path-joined}
+use Rattle.trace.proofs.Reach.{sound, complete, path-joined, edge-back}
 use Rattle.rows.specs.Bits.{has, joined}
 use Rattle.rows.proofs.Laws.{joined-row, joined-other, length-joined, rest-joined}
 use Rattle.graph.specs.Engine.{Stands}
 use Rattle.graph.proofs.Ends.{some-append}
 use Rattle.graph.proofs.Steps.{among-none, among-split}
 use Rattle.graph.proofs.Standing.{Kept, kept-then, SpreadTo, spread-none, spread-skip, spread-more}
-use Rattle.thin.specs.Cells.{gathered, spreadTo, closedRows}
+use Rattle.thin.specs.Cells.{gathered, meeting, spreadTo, closedRows}
 
 -- the rows of bs are joined into row t of the rows before
 record Gathering (before : List ℕ) (t : ℕ) (bs : List ℕ) (after : List ℕ) : Type 0 where
@@ -95,14 +95,63 @@ module _ (w₀ : List ℕ) (g : List Edge) (stands : Stands w₀ g) (t : ℕ) (i
       (gathering-on (done ++ (b ∷ [])) bs (cond (has w t b) w (joined w t b)) (gathering-more done w b (small b Among.top) (ne b Among.top) G)
       (λ c m. small c (Among.deeper m)) (λ c m. ne c (Among.deeper m)))
 
-  gathering : (bs : List ℕ) → ((b : ℕ) → Among b bs → b < 512) → ((b : ℕ) → Among b bs → b ≡ t → ⊥) → Gathering w₀ t bs (gathered w₀ t bs)
+  -- none has come in
+  started : Gathering w₀ t [] w₀
   unfolding someOf
-  gathering bs small ne = gathering-on [] bs w₀ (record {
+  started = record {
     kept = record { size = refl; rest = refl };
     small = λ b m. absurd (among-none m);
     row = λ a ha. sym (or-false (has w₀ t a));
     others = λ a d ha nd. refl;
-  }) small ne
+  }
+
+  gathering : (bs : List ℕ) → ((b : ℕ) → Among b bs → b < 512) → ((b : ℕ) → Among b bs → b ≡ t → ⊥) → Gathering w₀ t bs (gathered w₀ t bs)
+  gathering bs small ne = gathering-on [] bs w₀ started small ne
+
+  -- Without a cycle, who is new and reached is asked for no more than who is reached
+  module _ (acyclic : cyclic g ≡ false) where
+    apart : (b : ℕ) → b < 512 → (b ≡ t → ⊥) → T (has w₀ t b) → T (has w₀ b t) → ⊥
+    apart b in-b ne p q = go (sound g b t (subst T (stands .is b t in-b in-t) p)) refl refl
+      where
+        go : {a d : ℕ} → Path g a d → a ≡ b → d ≡ t → ⊥
+        go Path.here u v = ne (sym u ∙ v)
+        go {a} {d} (Path.there {b = c} e r) u v =
+            let back : T (reaches g d a) = subst (λ k. T (reaches g k a)) (sym v) (subst (λ k. T (reaches g t k)) (sym u) (subst T (stands .is t b in-t in-b) q)) in
+            subst T acyclic (edge-back g a c e (complete g (path-joined r (sound g d a back))))
+
+    meeting-on : (done bs w : List ℕ) → Gathering w₀ t done w → ((c : ℕ) → Among c done → has w₀ c t ≡ false) → ((b : ℕ) → Among b bs → b < 512) → ((b : ℕ) → Among b bs → b ≡ t → ⊥)
+        → meeting w t bs ≡ someOf (λ b. has w₀ b t) bs
+    unfolding meeting someOf
+    meeting-on done [] w G unmet small ne = refl
+    meeting-on done (b ∷ bs) w G unmet small ne =
+        let in-b : b < 512 = small b Among.top in
+        let nb : (b ≡ t → ⊥) = ne b Among.top in
+        let turn : (v : List ℕ) → Gathering w₀ t (done ++ (b ∷ [])) v → has w₀ b t ≡ false → meeting v t bs ≡ someOf (λ c. has w₀ c t) bs =
+        λ v H no. meeting-on (done ++ (b ∷ [])) bs v H (λ c m. among-split done b m (λ i. unmet c i) (λ e. ap (λ k. has w₀ k t) e ∙ no)) (λ c m. small c (Among.deeper m)) (λ c m. ne c (Among.deeper m)) in
+        by (has w t b)
+        (λ e. let no : has w₀ b t ≡ false = unreached done w G unmet b in-b nb e in
+        ap (λ c. (not c && has w b t) || meeting (cond c w (joined w t b)) t bs) e
+        ∙ turn w (stays-out done w b in-b nb G e) no
+        ∙ sym (some-cons (λ c. has w₀ c t) b bs ∙ ap (λ c. c || someOf (λ d. has w₀ d t) bs) no))
+        (λ e. ap (λ c. (not c && has w b t) || meeting (cond c w (joined w t b)) t bs) e
+        ∙ ap (λ c. c || meeting (joined w t b) t bs) (G .others t b in-t nb)
+        ∙ by (has w₀ b t)
+        (λ h. ap (λ c. c || meeting (joined w t b) t bs) h ∙ sym (some-cons (λ c. has w₀ c t) b bs ∙ ap (λ c. c || someOf (λ d. has w₀ d t) bs) h))
+        (λ h. ap (λ c. c || meeting (joined w t b) t bs) h ∙ turn (joined w t b) (joins-in done w b in-b nb G) h
+        ∙ sym (some-cons (λ c. has w₀ c t) b bs ∙ ap (λ c. c || someOf (λ d. has w₀ d t) bs) h)))
+      where
+        -- one whose bit row t has is not reached from t
+        unreached : (done w : List ℕ) → Gathering w₀ t done w → ((c : ℕ) → Among c done → has w₀ c t ≡ false) → (b : ℕ) → b < 512 → (b ≡ t → ⊥) → has w t b ≡ true → has w₀ b t ≡ false
+        unreached done w G unmet b in-b nb e = by (has w₀ b t)
+            (λ h. absurd (or-cases (has w₀ t b) (someOf (λ c. has w₀ c b) done) (T-of (sym (G .row b in-b) ∙ e))
+            (λ p. apart b in-b nb p (T-of h))
+            (λ p. let f : Holds (λ c. has w₀ c b) done = some-at (λ c. has w₀ c b) done p in
+            subst T (unmet (f .x) (f .in-l)) (through t b (f .x) in-t in-b (G .small (f .x) (f .in-l)) (T-of h) (f .holds)))))
+            (λ h. h)
+
+    pub meeting-is : (bs : List ℕ) → ((b : ℕ) → Among b bs → b < 512) → ((b : ℕ) → Among b bs → b ≡ t → ⊥) → meeting w₀ t bs ≡ someOf (λ b. has w₀ b t) bs
+    unfolding someOf
+    meeting-is bs small ne = meeting-on [] bs w₀ started (λ c m. absurd (among-none m)) small ne
 
 -- where row t has the bits of all sources, nothing is joined
 pub none-new : (w : List ℕ) (t : ℕ) (bs : List ℕ) → someOf (λ b. not (has w t b)) bs ≡ false → gathered w t bs ≡ w
