@@ -99,7 +99,8 @@ fn first_ready(lefts: &[u32], m: usize) -> usize
     m
 }
 
-// Transaction c is taken: one less is left for each of m threads whose next transaction has it as an ancestor.
+// Transaction c is taken: one less is left for each of m threads whose next transaction has it as an ancestor. The bit is taken away as a
+// number, since no branch on it would be foreseen.
 fn lower(work: &[u64], nexts: &[u16], m: usize, c: u16, lefts: &mut [u32])
     requires { ⌜ (m ≤ length (now nexts)) × (m ≤ length (now lefts)) ⌝ }
     ensures { λ _. ⌜ ((t : ℕ) → t < m →
@@ -107,9 +108,9 @@ fn lower(work: &[u64], nexts: &[u16], m: usize, c: u16, lefts: &mut [u32])
 {
     let mut t = 0;
     while t < m {
-        if 0 < lefts[t] && rows::test(work, nexts[t], c) {
-            lefts[t] -= 1;
-        }
+        let left = lefts[t];
+        let one = rows::test(work, nexts[t], c) as u32;
+        lefts[t] = if left < one { 0 } else { left - one };
         t += 1;
     }
 }
