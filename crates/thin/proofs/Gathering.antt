@@ -1,4 +1,4 @@
--- What the sources of a record do to the rows: where the rows stand for the edges before it, they stand for the edges with it.
+-- What the sources of a record do to the rows: where the first m rows stand for the edges before it, they stand for the edges with it.
 use Prim.Native.Nat.{ℕ, zero, suc, _<_, _≤_}
 use native.Mathlib.Omega.{arith}
 use mathlib.Core.Path.{_≡_, refl, sym, ap, ap₂, _∙_, subst}
@@ -21,10 +21,10 @@ use Rattle.graph.proofs.Steps.{among-none, among-split}
 use Rattle.graph.proofs.Standing.{Kept, kept-then, SpreadTo, spread-none, spread-skip, spread-more}
 use Rattle.thin.specs.Cells.{gathered, spreadTo, closedRows}
 
--- the rows of bs are joined into row t of the rows before
-record Gathering (before : List ℕ) (t : ℕ) (bs : List ℕ) (after : List ℕ) : Type 0 where
+-- the rows of bs, which are among the first m, are joined into row t of the rows before
+record Gathering (m : ℕ) (before : List ℕ) (t : ℕ) (bs : List ℕ) (after : List ℕ) : Type 0 where
   kept : Kept before after
-  small : (b : ℕ) → Among b bs → b < 512
+  small : (b : ℕ) → Among b bs → b < m
   row : (a : ℕ) → a < 512 → has after t a ≡ (has before t a || someOf (λ b. has before b a) bs)
   others : (a d : ℕ) → a < 512 → (d ≡ t → ⊥) → has after d a ≡ has before d a
 
@@ -39,39 +39,45 @@ absorbed false true r h = refl
 absorbed false false true h = absurd (h tt)
 absorbed false false false h = refl
 
-module _ (w₀ : List ℕ) (g : List Edge) (stands : Stands w₀ g) (t : ℕ) (in-t : t < 512) where
+module _ (m : ℕ) (most : m ≤ 512) (w₀ : List ℕ) (g : List Edge) (stands : Stands m w₀ g) (t : ℕ) (in-t : t < m) where
   -- who reaches one that reaches another reaches that
-  through : (a b d : ℕ) → a < 512 → b < 512 → d < 512 → T (has w₀ b a) → T (has w₀ d b) → T (has w₀ d a)
+  through : (a b d : ℕ) → a < 512 → b < m → d < m → T (has w₀ b a) → T (has w₀ d b) → T (has w₀ d a)
   through a b d ha hb hd p q =
-      subst T (sym (stands .is a d ha hd)) (complete g (path-joined (sound g a b (subst T (stands .is a b ha hb) p)) (sound g b d (subst T (stands .is b d hb hd) q))))
+      subst T (sym (stands .is a d ha hd)) (complete g (path-joined (sound g a b (subst T (stands .is a b ha hb) p)) (sound g b d (subst T (stands .is b d (omega arith) hd) q))))
 
-  module _ (bs : List ℕ) (w : List ℕ) (b : ℕ) (in-b : b < 512) (ne : b ≡ t → ⊥) (G : Gathering w₀ t bs w) where
+  module _ (bs : List ℕ) (w : List ℕ) (b : ℕ) (in-b : b < m) (ne : b ≡ t → ⊥) (G : Gathering m w₀ t bs w) where
     wide : 4096 ≤ length w
     wide = omega (arith, stands .long, G .kept .size)
 
-    all-small : (c : ℕ) → Among c (bs ++ (b ∷ [])) → c < 512
-    all-small c m = among-split bs b m (λ n. G .small c n) (λ e. omega arith)
+    in-t₀ : t < 512
+    in-t₀ = omega arith
 
-    joins-in : Gathering w₀ t (bs ++ (b ∷ [])) (joined w t b)
+    in-b₀ : b < 512
+    in-b₀ = omega arith
+
+    all-small : (c : ℕ) → Among c (bs ++ (b ∷ [])) → c < m
+    all-small c i = among-split bs b i (λ n. G .small c n) (λ e. omega arith)
+
+    joins-in : Gathering m w₀ t (bs ++ (b ∷ [])) (joined w t b)
     joins-in = record {
-      kept = kept-then w₀ w (joined w t b) (G .kept) (length-joined w t b in-t in-b wide) (rest-joined w t b in-t in-b wide);
+      kept = kept-then w₀ w (joined w t b) (G .kept) (length-joined w t b in-t₀ in-b₀ wide) (rest-joined w t b in-t₀ in-b₀ wide);
       small = all-small;
-      row = λ a ha. joined-row w t b in-t in-b wide a ha
+      row = λ a ha. joined-row w t b in-t₀ in-b₀ wide a ha
           ∙ ap₂ (λ p q. p || q) (G .row a ha) (G .others a b ha ne)
           ∙ or-assoc (has w₀ t a) (someOf (λ c. has w₀ c a) bs) (has w₀ b a)
           ∙ ap (λ c. has w₀ t a || c) (sym (some-snoc (λ c. has w₀ c a) bs b));
-      others = λ a d ha nd. joined-other w t b in-t in-b wide d a ha nd ∙ G .others a d ha nd;
+      others = λ a d ha nd. joined-other w t b in-t₀ in-b₀ wide d a ha nd ∙ G .others a d ha nd;
     }
 
     -- who reaches b reaches t already, or one of bs
     known : has w t b ≡ true → (a : ℕ) → a < 512 → T (has w₀ b a) → T (has w₀ t a || someOf (λ c. has w₀ c a) bs)
-    known e a ha p = or-cases (has w₀ t b) (someOf (λ c. has w₀ c b) bs) (T-of (sym (G .row b in-b) ∙ e))
+    known e a ha p = or-cases (has w₀ t b) (someOf (λ c. has w₀ c b) bs) (T-of (sym (G .row b in-b₀) ∙ e))
         (λ q. or-left (has w₀ t a) (someOf (λ c. has w₀ c a) bs) (through a b t ha in-b in-t p q))
         (λ q. let f : Holds (λ c. has w₀ c b) bs = some-at (λ c. has w₀ c b) bs q in
         or-right (has w₀ t a) (someOf (λ c. has w₀ c a) bs)
         (some-has (λ c. has w₀ c a) (f .x) bs (f .in-l) (through a b (f .x) ha in-b (G .small (f .x) (f .in-l)) p (f .holds))))
 
-    stays-out : has w t b ≡ true → Gathering w₀ t (bs ++ (b ∷ [])) w
+    stays-out : has w t b ≡ true → Gathering m w₀ t (bs ++ (b ∷ [])) w
     stays-out e = record {
       kept = G .kept;
       small = all-small;
@@ -81,25 +87,25 @@ module _ (w₀ : List ℕ) (g : List Edge) (stands : Stands w₀ g) (t : ℕ) (i
       others = G .others;
     }
 
-    gathering-more : Gathering w₀ t (bs ++ (b ∷ [])) (cond (has w t b) w (joined w t b))
+    gathering-more : Gathering m w₀ t (bs ++ (b ∷ [])) (cond (has w t b) w (joined w t b))
     gathering-more = by (has w t b)
-        (λ e. subst (λ c. Gathering w₀ t (bs ++ (b ∷ [])) (cond c w (joined w t b))) (sym e) (stays-out e))
-        (λ e. subst (λ c. Gathering w₀ t (bs ++ (b ∷ [])) (cond c w (joined w t b))) (sym e) joins-in)
+        (λ e. subst (λ c. Gathering m w₀ t (bs ++ (b ∷ [])) (cond c w (joined w t b))) (sym e) (stays-out e))
+        (λ e. subst (λ c. Gathering m w₀ t (bs ++ (b ∷ [])) (cond c w (joined w t b))) (sym e) joins-in)
 
-  gathering-on : (done bs w : List ℕ) → Gathering w₀ t done w → ((b : ℕ) → Among b bs → b < 512) → ((b : ℕ) → Among b bs → b ≡ t → ⊥)
-      → Gathering w₀ t (done ++ bs) (gathered w t bs)
+  gathering-on : (done bs w : List ℕ) → Gathering m w₀ t done w → ((b : ℕ) → Among b bs → b < m) → ((b : ℕ) → Among b bs → b ≡ t → ⊥)
+      → Gathering m w₀ t (done ++ bs) (gathered w t bs)
   unfolding gathered
-  gathering-on done [] w G small ne = subst (λ l. Gathering w₀ t l w) (sym (append-nil done)) G
+  gathering-on done [] w G small ne = subst (λ l. Gathering m w₀ t l w) (sym (append-nil done)) G
   gathering-on done (b ∷ bs) w G small ne =
-      subst (λ l. Gathering w₀ t l (gathered w t (b ∷ bs))) (append-snoc done b bs)
+      subst (λ l. Gathering m w₀ t l (gathered w t (b ∷ bs))) (append-snoc done b bs)
       (gathering-on (done ++ (b ∷ [])) bs (cond (has w t b) w (joined w t b)) (gathering-more done w b (small b Among.top) (ne b Among.top) G)
-      (λ c m. small c (Among.deeper m)) (λ c m. ne c (Among.deeper m)))
+      (λ c i. small c (Among.deeper i)) (λ c i. ne c (Among.deeper i)))
 
-  gathering : (bs : List ℕ) → ((b : ℕ) → Among b bs → b < 512) → ((b : ℕ) → Among b bs → b ≡ t → ⊥) → Gathering w₀ t bs (gathered w₀ t bs)
+  gathering : (bs : List ℕ) → ((b : ℕ) → Among b bs → b < m) → ((b : ℕ) → Among b bs → b ≡ t → ⊥) → Gathering m w₀ t bs (gathered w₀ t bs)
   unfolding someOf
   gathering bs small ne = gathering-on [] bs w₀ (record {
     kept = record { size = refl; rest = refl };
-    small = λ b m. absurd (among-none m);
+    small = λ b i. absurd (among-none i);
     row = λ a ha. sym (or-false (has w₀ t a));
     others = λ a d ha nd. refl;
   }) small ne
@@ -124,29 +130,29 @@ spread-first t (suc n) w in-t h long =
     (λ e. subst (λ c. SpreadTo t w (suc n) (cond c (joined v n t) v)) (sym e) (spread-skip t w v n long in-t (omega arith) S e))
 
 -- The edges h are the edges g and one to t from each of bs. Of the rows that t reaches, other than its own, all are among the first n
-module _ (w₀ : List ℕ) (g h : List Edge) (stands : Stands w₀ g) (t n : ℕ) (in-t : t < 512) (in-n : n ≤ 512) (bs : List ℕ)
-    (small : (b : ℕ) → Among b bs → b < 512) (ne : (b : ℕ) → Among b bs → b ≡ t → ⊥)
+module _ (m : ℕ) (most : m ≤ 512) (w₀ : List ℕ) (g h : List Edge) (stands : Stands m w₀ g) (t n : ℕ) (in-t : t < m) (in-n : n ≤ 512) (bs : List ℕ)
+    (small : (b : ℕ) → Among b bs → b < m) (ne : (b : ℕ) → Among b bs → b ≡ t → ⊥)
     (goal : (a : ℕ) → reaches h a t ≡ (reaches g a t || someOf (λ b. reaches g a b) bs))
     (beyond : (a d : ℕ) → reaches h a d ≡ (reaches g a d || (reaches g t d && reaches h a t)))
-    (far : (d : ℕ) → d < 512 → n ≤ d → T (reaches g t d) → d ≡ t) where
+    (far : (d : ℕ) → d < m → n ≤ d → T (reaches g t d) → d ≡ t) where
   abbrev w : List ℕ
   w = gathered w₀ t bs
 
   abbrev v : List ℕ
   v = spreadTo n w t
 
-  G : Gathering w₀ t bs w
-  G = gathering w₀ g stands t in-t bs small ne
+  G : Gathering m w₀ t bs w
+  G = gathering m most w₀ g stands t in-t bs small ne
 
   long : 4096 ≤ length w
   long = omega (arith, stands .long, G .kept .size)
 
   S : SpreadTo t w n v
-  S = spread-first t n w in-t in-n long
+  S = spread-first t n w (omega arith) in-n long
 
   row-is : (a : ℕ) → a < 512 → has w t a ≡ reaches h a t
   row-is a ha =
-      G .row a ha ∙ ap₂ (λ p q. p || q) (stands .is a t ha in-t) (some-same (λ b. has w₀ b a) (λ b. reaches g a b) bs (λ b m. stands .is a b ha (small b m)))
+      G .row a ha ∙ ap₂ (λ p q. p || q) (stands .is a t ha in-t) (some-same (λ b. has w₀ b a) (λ b. reaches g a b) bs (λ b i. stands .is a b ha (small b i)))
       ∙ sym (goal a)
 
   own-row : (a : ℕ) → a < 512 → has v t a ≡ reaches h a t
@@ -154,10 +160,10 @@ module _ (w₀ : List ℕ) (g h : List Edge) (stands : Stands w₀ g) (t n : ℕ
       (λ e. S .done a t ha (ltb-true t n e) ∙ or-and-self (has w t a) (has w t t) ∙ row-is a ha)
       (λ e. S .left a t ha (ltb-false t n e) ∙ row-is a ha)
 
-  other-row : (a d : ℕ) → a < 512 → d < 512 → (d ≡ t → ⊥) → has v d a ≡ reaches h a d
+  other-row : (a d : ℕ) → a < 512 → d < m → (d ≡ t → ⊥) → has v d a ≡ reaches h a d
   other-row a d ha hd nd = by (ltb d n)
       (λ e. S .done a d ha (ltb-true d n e)
-      ∙ ap₂ (λ p q. p || q) (G .others a d ha nd ∙ stands .is a d ha hd) (ap₂ (λ p q. p && q) (G .others t d in-t nd ∙ stands .is t d in-t hd) (row-is a ha))
+      ∙ ap₂ (λ p q. p || q) (G .others a d ha nd ∙ stands .is a d ha hd) (ap₂ (λ p q. p && q) (G .others t d (omega arith) nd ∙ stands .is t d (omega arith) hd) (row-is a ha))
       ∙ sym (beyond a d))
       (λ e. S .left a d ha (ltb-false d n e) ∙ G .others a d ha nd ∙ stands .is a d ha hd
       ∙ sym (beyond a d ∙ ap (λ c. reaches g a d || (c && reaches h a t)) (unreached (ltb-false d n e)) ∙ or-false (reaches g a d)))
@@ -165,7 +171,7 @@ module _ (w₀ : List ℕ) (g h : List Edge) (stands : Stands w₀ g) (t n : ℕ
       unreached : n ≤ d → reaches g t d ≡ false
       unreached le = by (reaches g t d) (λ q. absurd (nd (far d hd le (T-of q)))) (λ q. q)
 
-  spread-stands : Stands v h
+  spread-stands : Stands m v h
   spread-stands = record {
     long = omega (arith, long, S .kept .size);
     is = λ a d ha hd. by-same d t
@@ -174,7 +180,7 @@ module _ (w₀ : List ℕ) (g h : List Edge) (stands : Stands w₀ g) (t n : ℕ
   }
 
   -- all sources reach t already: nobody reaches more
-  same-stands : w ≡ w₀ → Stands w₀ h
+  same-stands : w ≡ w₀ → Stands m w₀ h
   same-stands e = record { long = stands .long; is = λ a d ha hd. stands .is a d ha hd ∙ sym (beyond a d ∙ ap (λ c. reaches g a d || (reaches g t d && c)) (before a ha) ∙ short a d) }
     where
       before : (a : ℕ) → a < 512 → reaches h a t ≡ reaches g a t
@@ -187,11 +193,11 @@ module _ (w₀ : List ℕ) (g h : List Edge) (stands : Stands w₀ g) (t n : ℕ
           (λ u. or-left (reaches g a d) (reaches g t d && reaches g a t) u)
 
   -- The rows after the record stand for the edges with it
-  pub closed-stands : Stands (closedRows w₀ n t bs) h
+  pub closed-stands : Stands m (closedRows w₀ n t bs) h
   unfolding closedRows
   closed-stands = by (someOf (λ b. not (has w₀ t b)) bs)
-      (λ e. subst (λ c. Stands (cond c v w₀) h) (sym e) spread-stands)
-      (λ e. subst (λ c. Stands (cond c v w₀) h) (sym e) (same-stands (none-new w₀ t bs e)))
+      (λ e. subst (λ c. Stands m (cond c v w₀) h) (sym e) spread-stands)
+      (λ e. subst (λ c. Stands m (cond c v w₀) h) (sym e) (same-stands (none-new w₀ t bs e)))
 
   pub closed-kept : Kept w₀ (closedRows w₀ n t bs)
   unfolding closedRows
