@@ -29,12 +29,13 @@ use Rattle.rows.proofs.Laws.{cleared-is}
 use Rattle.graph.proofs.Numbers.{sane-none, labels-lt, labelled-take, thread-edge}
 use Rattle.graph.proofs.Round.{blank, number-at, labelled-length}
 use Rattle.graph.proofs.Held.{length-held, held-at, held-take}
+use Rattle.graph.proofs.Standing.{stands-fewer}
 
--- The shortest prefix with a cycle has p records, or there is none where p is 0. The rows stand for the edges, or their row of the last record's
--- transaction does for those of that prefix. Past its first 4,096 numbers the work area is as before
+-- The shortest prefix with a cycle has p records, or there is none where p is 0. The rows of all transactions stand for the edges, or the row of the
+-- last record's transaction does for those of that prefix. Past its first 4,096 numbers the work area is as before
 pub record Ready (es : List Event) (p : ℕ) (before work : List ℕ) : Type 0 where
   pub first : p ≡ shortest es
-  pub stands : p ≡ 0 → Stands work (edges (labelled es))
+  pub stands : p ≡ 0 → Stands (transactions es) work (edges (labelled es))
   pub row : (k : ℕ) → p ≡ suc k → (b : ℕ) → b < 512 → has work (transactionAt es k) b ≡ reaches (edgesUpTo es (suc k)) b (transactionAt es k)
   pub small : (i : ℕ) → getD work i 0 < 2 ^ 64
   pub size : length work ≡ length before
@@ -125,7 +126,7 @@ module _ (n : ℕ) (all : List Event) (labels : List ℕ) (m : ℕ) (h : Labels 
     unfolding edgesUpTo
     ready start small size rest = record {
       first = s .first ∙ shortest-is;
-      stands = λ z. subst (λ l. Stands work (edges l)) (sym (h .0)) (s .stands z);
+      stands = λ z. stands-fewer 512 (transactions es) work (edges (labelled es)) (omega (arith, h .1, h .2)) (subst (λ l. Stands 512 work (edges l)) (sym (h .0)) (s .stands z));
       row = λ k q b in-b. let at : transactionAt es k ≡ getD labels k 0 = at-label k (omega (arith, prefix-inside)) in
           subst (λ t. has work t b ≡ reaches (edges (labelled (take (suc k) es))) b t) (sym at)
           (s .row k q b in-b ∙ ap (λ l. reaches (edges l) b (getD labels k 0)) (sym (prefix-is (suc k))));

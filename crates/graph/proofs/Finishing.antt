@@ -1,30 +1,32 @@
--- Finishing by rows that stand for the edges gives what `arranged` says: the law that an engine cites once it has found the shortest prefix with a cycle.
-use Prim.Native.Nat.{ℕ, zero, suc, _+_, _<_, _≤_}
+-- Finishing by rows that stand for the edges gives what `arranged` says: the laws that an engine cites once it has found the shortest prefix with a
+-- cycle, or that there is none.
+use Prim.Native.Nat.{ℕ, zero, suc, _+_, _-_, _<_, _≤_}
 use native.Mathlib.Omega.{arith}
 use native.Mathlib.Numerals.{add-one}
-use mathlib.Core.Path.{_≡_, refl, sym, ap, ap₂, _∙_, subst}
-use mathlib.Core.Bool.{true, false, cond}
-use mathlib.Core.List.{List, [], _++_}
-use lib.ListN.{length, drop, replicate, length-replicate}
-use lib.Dec.{T, leb, leb→le}
+use mathlib.Core.Path.{_≡_, refl, sym, ap, ap₂, _∙_, subst, fun-ext}
+use mathlib.Core.Bool.{true, false, cond, not, _&&_, and-false}
+use mathlib.Core.List.{List, [], _∷_, _++_}
+use lib.ListN.{length, getD, drop, replicate, length-replicate}
+use lib.Dec.{eqb, ltb, leb, leb→le}
 use borrow.Author.Tests.{le-leb, lt-leb, leb-false}
 use Rattle.record.specs.declared.Event.{Event}
-use Rattle.trace.specs.Lists.{over}
+use Rattle.trace.specs.Lists.{firstOf, from, below, over}
 use Rattle.trace.proofs.Tests.{by, by-same, T-of}
-use Rattle.trace.proofs.Lists.{earliest}
+use Rattle.trace.proofs.Lists.{first-same, from-bound, earliest}
+use Rattle.rows.specs.Bits.{has, marked, cleared}
 use Rattle.graph.specs.declared.Arranged.the-variants.{Ordered, Cyclic}
 use Rattle.graph.specs.Transactions.{none-yet, labelled, transactions, transactionLimit}
 use Rattle.graph.specs.Edges.{edges}
 use Rattle.graph.specs.Serial.{threadOf, serialOrder}
 use Rattle.graph.specs.Violation.{edgesUpTo, cyclicUpTo, shortest, transactionAt, cycleOf}
 use Rattle.graph.specs.Arranged.{workSize, named, found, arranged}
-use Rattle.graph.specs.Engine.{above}
-use Rattle.graph.specs.Finished.{orderBy, cycleBy, namedBy, foundBy, finished}
+use Rattle.graph.specs.Engine.{above, nextFrom, nextOf, leftOf, countOrder}
+use Rattle.graph.specs.Finished.{orderBy, orderedBy, cycleBy, namedBy, foundBy, finished}
 use Rattle.graph.proofs.Numbers.{sane-none, labels-lt, bounded-edges, thread-edge}
 use Rattle.graph.proofs.Demand3 as Demand3
 use Rattle.graph.proofs.Followed.{walk-right}
 use Rattle.graph.proofs.Taken.{Given, order-is}
-use Rattle.graph.proofs.Arranging.{Ready, whole, arranged-fit, finished-fit}
+use Rattle.graph.proofs.Arranging.{Ready, whole, cleared-over, arranged-fit, finished-fit}
 
 -- one transaction more: its thread is below the number, or is the highest
 pub above-same : (thread : ℕ → ℕ) (n : ℕ) → thread n < above thread n → above thread (n + 1) ≡ above thread n
@@ -50,6 +52,49 @@ above-threads thread (suc n) a h = by (leb (above thread n) (thread n))
     by-same a n
     (λ q. let same : thread a ≡ thread n = ap thread q in omega (arith, is, same, lt))
     (λ d. omega (arith, is, above-threads thread n a (omega arith))))
+
+-- the order asks for the threads of the transactions alone
+module _ (f g : ℕ → ℕ) (n : ℕ) (same : (a : ℕ) → a < n → f a ≡ g a) (work : List ℕ) where
+  same-above : (k : ℕ) → k ≤ n → above f k ≡ above g k
+  unfolding above
+  same-above zero h = refl
+  same-above (suc k) h = ap₂ (λ m t. cond (leb m t) (suc t) m) (same-above k (omega arith)) (same k (omega arith))
+
+  same-next : (taken : List ℕ) → nextOf f n taken ≡ nextOf g n taken
+  unfolding nextFrom
+  same-next taken = fun-ext (λ t. first-same (λ b. eqb (f b) t && not (has taken 0 b)) (λ b. eqb (g b) t && not (has taken 0 b)) n (from 0 (n - 0))
+      (λ b i. ap (λ u. eqb u t && not (has taken 0 b)) (same b (omega (arith, from-bound 0 (n - 0) b i)))))
+
+  same-count : (m k : ℕ) (taken : List ℕ) → countOrder work f n m k taken ≡ countOrder work g n m k taken
+  unfolding countOrder
+  same-count m zero taken = refl
+  same-count m (suc k) taken = ap₂ step (same-next taken) (fun-ext (λ c. same-count m k (marked taken 0 c)))
+    where
+      step : (ℕ → ℕ) → (ℕ → List ℕ) → List ℕ
+      step next rest =
+          let t : ℕ = firstOf (λ u. eqb (leftOf work n taken (next u)) 1) m (below m) in
+          elim (ltb t m) [ true ↦ next t ∷ rest (next t) | false ↦ [] ]
+
+  same-order : orderBy f n work ≡ orderBy g n work
+  unfolding orderBy
+  same-order = ap (λ m. countOrder work f n m n (replicate 8 0)) (same-above n (omega arith)) ∙ same-count (above g n) n (replicate 8 0)
+
+-- the order written by the threads, where it is and where it isn't
+module _ (threads : List ℕ) (n : ℕ) (order work : List ℕ) where
+  pub ordered-many : transactionLimit < n → orderedBy threads n order work ≡ order
+  unfolding orderedBy
+  ordered-many h = ap (λ b. cond (b && leb workSize (length work)) (over (orderBy (λ a. getD threads a 0) n work) order) order) (lt-leb n transactionLimit h)
+
+  pub ordered-short : length work < workSize → orderedBy threads n order work ≡ order
+  unfolding orderedBy
+  ordered-short h =
+      let none : (leb n transactionLimit && leb workSize (length work)) ≡ false =
+      ap (λ b. leb n transactionLimit && b) (lt-leb workSize (length work) h) ∙ and-false (leb n transactionLimit) in
+      ap (λ b. cond b (over (orderBy (λ a. getD threads a 0) n work) order) order) none
+
+  pub ordered-fit : n ≤ transactionLimit → workSize ≤ length work → orderedBy threads n order work ≡ over (orderBy (λ a. getD threads a 0) n work) order
+  unfolding orderedBy
+  ordered-fit h k = ap₂ (λ b c. cond (b && c) (over (orderBy (λ a. getD threads a 0) n work) order) order) (le-leb n transactionLimit h) (le-leb workSize (length work) k)
 
 module _ (es : List Event) (few : transactions es ≤ transactionLimit) (p : ℕ) (before work : List ℕ) (r : Ready es p before work) (long : workSize ≤ length before) where
   inside : p ≤ length es
@@ -102,4 +147,18 @@ module _ (es : List Event) (few : transactions es ≤ transactionLimit) (p : ℕ
       finished-fit es order work few (omega arith) p inside
       ∙ ap₂ (λ a l. whole a (over l order) (over (replicate workSize 0) work)) (found-right p refl ∙ ap (found es) (r .first)) (named-right p refl ∙ ap (named es) (r .first))
       ∙ ap (whole (found es (shortest es)) (over (named es (shortest es)) order)) cleared-right
+      ∙ sym (arranged-fit es order before few long)
+
+  -- Where there is no cycle: the order written by the threads of the transactions, and the rows cleared
+  pub ordered-right : p ≡ 0 → (threads : List ℕ) → ((a : ℕ) → a < transactions es → getD threads a 0 ≡ threadOf (labelled es) a)
+      → (order : List ℕ) → whole (Ordered (transactions es)) (orderedBy threads (transactions es) order work) (cleared work) ≡ arranged es order before
+  unfolding found named
+  ordered-right none threads are order =
+      let size : length work ≡ length before = r .size in
+      let n : ℕ = transactions es in
+      let thread : ℕ → ℕ = λ a. getD threads a 0 in
+      ap₂ (whole (Ordered n))
+      (ordered-fit threads n order work few (omega arith) ∙ ap (λ l. over l order) (same-order thread (threadOf (labelled es)) n are work ∙ order-right none))
+      (cleared-over before work (omega arith) (r .rest))
+      ∙ ap (λ k. whole (found es k) (over (named es k) order) (over (replicate workSize 0) before)) (sym none ∙ r .first)
       ∙ sym (arranged-fit es order before few long)

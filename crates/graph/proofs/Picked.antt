@@ -253,9 +253,3 @@ module _ (f : ℕ → ℕ) (old l : List ℕ) (t : ℕ) (h : Rewritten f old t l
     λ u in-u. by-same u t (λ q. subst (λ k. getD (set l t v) k 0 ≡ f k) (sym q) (getD-set-same l t v 0 long ∙ is)) (λ ne. getD-set-other l t u v 0 ne ∙ h .0 u (omega arith)),
     λ u out-u. getD-set-other l t u v 0 (λ q. absurd (omega arith)) ∙ h .1 u (omega arith),
   )
-
-  pub rewritten-same : getD old t 0 ≡ f t → Rewritten f old (t + 1) l
-  rewritten-same is = (
-    λ u in-u. by-same u t (λ q. subst (λ k. getD l k 0 ≡ f k) (sym q) (h .1 t (omega arith) ∙ is)) (λ ne. h .0 u (omega arith)),
-    λ u out-u. h .1 u (omega arith),
-  )

@@ -76,7 +76,7 @@ pub record Given (n m : ℕ) (thread : ℕ → ℕ) (g : List Edge) (work : List
   pub ordered : (a b : ℕ) → a < b → b < n → thread a ≡ thread b → T (hasEdge g a b)
   pub bounded : Bounded n g
   pub acyclic : cyclic g ≡ false
-  pub stands : Stands work g
+  pub stands : Stands n work g
   pub small : (i : ℕ) → getD work i 0 < 2 ^ 64
 
 module _ (n m : ℕ) (thread : ℕ → ℕ) (g : List Edge) (work : List ℕ) (h : Given n m thread g work) where
@@ -90,10 +90,10 @@ module _ (n m : ℕ) (thread : ℕ → ℕ) (g : List Edge) (work : List ℕ) (h
 
   module _ (row taken : List ℕ) (s : Holds g row taken) where
     -- who is counted: whoever leads to a and isn't taken
-    counted-is : (a b : ℕ) → a < 512 → b < 512 → lacks work a row 0 b ≡ (reaches g b a && not (member b taken))
+    counted-is : (a b : ℕ) → a < n → b < 512 → lacks work a row 0 b ≡ (reaches g b a && not (member b taken))
     counted-is a b in-a in-b = ap₂ (λ p q. p && not q) (h .stands .is b a in-b in-a) (s .is b in-b)
 
-    counted : (a b : ℕ) → a < 512 → b < 512 → Path g b a → T (not (member b taken)) → lacks work a row 0 b ≡ true
+    counted : (a b : ℕ) → a < n → b < 512 → Path g b a → T (not (member b taken)) → lacks work a row 0 b ≡ true
     counted a b in-a in-b p new = counted-is a b in-a in-b ∙ T-is (reaches g b a && not (member b taken)) (and-both (reaches g b a) (not (member b taken)) (complete g p) new)
 
     left-is : (a : ℕ) → a < n → leftOf work n row a ≡ length (keep (lacks work a row 0) (below 512))
@@ -104,8 +104,8 @@ module _ (n m : ℕ) (thread : ℕ → ℕ) (g : List Edge) (work : List ℕ) (h
     free-left a f =
         let in-a : a < 512 = omega (arith, f .small, h .few) in
         left-is a (f .small)
-        ∙ count-less (lacks work a row 0) (λ b. false) a 0 512 (omega arith) in-a (counted a a in-a in-a here (f .new)) refl (λ b in-b d. by (lacks work a row 0 b)
-        (λ e. let two : T (reaches g b a && not (member b taken)) = T-of (sym (counted-is a b in-a in-b) ∙ e) in
+        ∙ count-less (lacks work a row 0) (λ b. false) a 0 512 (omega arith) in-a (counted a a (f .small) in-a here (f .new)) refl (λ b in-b d. by (lacks work a row 0 b)
+        (λ e. let two : T (reaches g b a && not (member b taken)) = T-of (sym (counted-is a b (f .small) in-b) ∙ e) in
         or-cases (eqb b a) (member b taken)
         (subst T (member-cons b a taken) (led n g taken (s .closed) a f b (sound g b a (and-left (reaches g b a) (not (member b taken)) two))))
         (λ u. absurd (d (eqb→eq b a u)))
@@ -128,10 +128,10 @@ module _ (n m : ℕ) (thread : ℕ → ℕ) (g : List Edge) (work : List ℕ) (h
             let apart : a ≡ b → ⊥ = λ q. subst T (h .acyclic) (edge-back g b a e (complete g (subst (λ z. Path g a z) q here))) in
             let p : ℕ → Bool = lacks work a row 0 in
             let q : ℕ → Bool = λ c. p c && not (eqb c b) in
-            let both : p b ≡ true = counted a b in-a in-b (there e here) new-b in
+            let both : p b ≡ true = counted a b in-n in-b (there e here) new-b in
             let more : length (keep p (below 512)) ≡ suc (length (keep q (below 512))) =
             count-less p q b 0 512 (omega arith) in-b both (ap₂ (λ c d. c && not d) both (eq-eqb b b refl)) (λ c in-c d. sym (ap (λ t. p c && not t) (ne-eqb c b d) ∙ and-true (p c))) in
-            let own : T (q a) = and-both (p a) (not (eqb a b)) (T-of (counted a a in-a in-a here new)) (T-of (ap not (ne-eqb a b apart))) in
+            let own : T (q a) = and-both (p a) (not (eqb a b)) (T-of (counted a a in-n in-a here new)) (T-of (ap not (ne-eqb a b apart))) in
             omega (arith, one, left-is a in-n, more, among-length (keep q (below 512)) (keep-has q a (below 512) (below-has 512 a in-a) own))
 
     -- a free one is its thread's next

@@ -42,10 +42,10 @@ abbrev pub Labels : ℕ → List Event → List ℕ → Labelling → Type 0
 Labels n all labels (Done m) = (labelled (take n all) ≡ held n all labels) × (m ≡ transactions (take n all)) × (m ≤ transactionLimit)
 Labels n all labels Full = transactionLimit < transactions (take n all)
 
--- The rows stand for the edges: bit a of row d is set where a path leads from a to d
-pub record Stands (w : List ℕ) (g : List Edge) : Type 0 where
+-- The first n rows, of at most 512, stand for the edges: bit a of row d is set where a path leads from a to d
+pub record Stands (n : ℕ) (w : List ℕ) (g : List Edge) : Type 0 where
   pub long : 4096 ≤ length w
-  pub is : (a d : ℕ) → a < 512 → d < 512 → has w d a ≡ reaches g a d
+  pub is : (a d : ℕ) → a < 512 → d < n → has w d a ≡ reaches g a d
 
 -- What spreading row t leaves: it is joined into each row that has bit t
 pub record Spread (t : ℕ) (before after : List ℕ) : Type 0 where
@@ -56,7 +56,7 @@ pub record Spread (t : ℕ) (before after : List ℕ) : Type 0 where
 -- row t in any case
 pub record Closed (g : List Edge) (t : ℕ) (before after : List ℕ) (r : Bool) : Type 0 where
   pub cycle : r ≡ cyclic g
-  pub stands : r ≡ false → Stands after g
+  pub stands : r ≡ false → Stands 512 after g
   pub row : (a : ℕ) → a < 512 → has after t a ≡ reaches g a t
   pub rest : drop 4096 after ≡ drop 4096 before
 
@@ -64,7 +64,7 @@ pub record Closed (g : List Edge) (t : ℕ) (before after : List ℕ) (r : Bool)
 -- of the last record's transaction
 pub record Sought (xs : List Labelled) (labels : List ℕ) (before after : List ℕ) (r : ℕ) : Type 0 where
   pub first : r ≡ firstOf (λ k. cyclic (edges (take k xs))) 0 (from 1 (length xs))
-  pub stands : r ≡ 0 → Stands after (edges xs)
+  pub stands : r ≡ 0 → Stands 512 after (edges xs)
   pub none : r ≡ 0 → cyclic (edges xs) ≡ false
   pub row : (k : ℕ) → r ≡ suc k → (a : ℕ) → a < 512 → has after (getD labels k 0) a ≡ reaches (edges (take (suc k) xs)) a (getD labels k 0)
   pub rest : drop 4096 after ≡ drop 4096 before

@@ -1,9 +1,9 @@
 -- The end of arranging, by rows that are lent: what is named where bit a of row d of the work area is taken to say that a path leads from
 -- transaction a to d. Where it does, that is what `arranged` names (`proofs/Finishing`).
 use Prim.Native.Nat.{ℕ, zero, suc, pred}
-use mathlib.Core.Bool.{Bool, true, false, not, _&&_}
+use mathlib.Core.Bool.{Bool, true, false, cond, not, _&&_}
 use mathlib.Core.List.{List, [], _∷_}
-use lib.ListN.{length, replicate}
+use lib.ListN.{length, getD, replicate}
 use lib.Dec.{eqb, leb}
 use Rattle.record.specs.declared.Event.{Event}
 use Rattle.trace.specs.Lists.{firstOf, below, over}
@@ -11,7 +11,7 @@ use Rattle.trace.specs.Paths.{Edge, hasEdge}
 use Rattle.rows.specs.Bits.{has}
 use Rattle.graph.specs.declared.Arranged.{Arranged}
 use Rattle.graph.specs.declared.Arranged.the-variants.{Unfit, Ordered, Cyclic}
-use Rattle.graph.specs.Transactions.{labelled, transactions}
+use Rattle.graph.specs.Transactions.{labelled, transactions, transactionLimit}
 use Rattle.graph.specs.Serial.{threadOf}
 use Rattle.graph.specs.Violation.{edgesUpTo, transactionAt, closes}
 use Rattle.graph.specs.Arranged.{workSize, Arrangement, fits}
@@ -20,6 +20,12 @@ use Rattle.graph.specs.Engine.{above, countOrder}
 -- the serial order, by counts of the bits in the rows
 unfoldable pub orderBy : (ℕ → ℕ) → ℕ → List ℕ → List ℕ
 orderBy thread n work = countOrder work thread n (above thread n) n (replicate 8 0)
+
+-- That order of n transactions, of which a has the thread at place a, written to the front of the numbers lent for it. Of more than 512, or a work
+-- area of fewer than 4,096 numbers, nothing changes
+unfoldable pub orderedBy : List ℕ → ℕ → List ℕ → List ℕ → List ℕ
+orderedBy threads n order work =
+    cond (leb n transactionLimit && leb workSize (length work)) (over (orderBy (λ a. getD threads a 0) n work) order) order
 
 -- The cycle through T, by row T: who leads to T
 module _ (n : ℕ) (es : List Edge) (work : List ℕ) (T : ℕ) where

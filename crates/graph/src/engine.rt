@@ -74,7 +74,7 @@ pub fn arrange_labelled(
     ensures { λ r. ⌜ _≡_ {A = Arrangement} (record { answer = r; order = now (order .exit); work = now (work .exit) })
         (arranged (take count all) (now (order .entry)) (now (work .entry))) ⌝ }
 {
-    rows::begin(work);
+    rows::begin(work, 512);
     let prefix = crate::reach::first_cycle(work, all, labels, count);
     finish_labelled(all, labels, count, n, prefix, order, work)
 }

@@ -13,7 +13,7 @@ ghost use mathlib.Core.Path.{_≡_};
 ghost use Prim.Native.Nat.{min};
 ghost use lib.ListN.{take};
 ghost use Rattle.graph.specs.Arranged.{Arrangement, arranged};
-ghost use Rattle.graph.specs.Finished.{finished};
+ghost use Rattle.graph.specs.Finished.{orderedBy, finished};
 ghost use Rattle.graph.specs.Conflict.{conflict};
 ghost use Rattle.graph.specs.Transactions.{tallyOf, numbered, counted};
 
@@ -133,4 +133,18 @@ pub fn finish(
             engine::finish_labelled(all, &labels, number, transactions, prefix, order, work)
         }
     }
+}
+
+// Writes the serial order of n transactions, whose threads are lent, to the front of `order`, by the rows that the work area holds. Where n is
+// over 512, or the work area has fewer than 4,096 numbers, nothing changes.
+pub fn put_in_order(threads: &[u8; 512], n: u16, order: &mut [u16; 512], work: &[u64])
+    ensures { λ _. ⌜ now (order .exit) ≡ orderedBy (now (threads .entry)) n (now (order .entry)) (now (work .entry)) ⌝ }
+{
+    if 512 < n {
+        return;
+    }
+    if work.len() < 4096 {
+        return;
+    }
+    order::take_by_threads(threads, n, work, order);
 }

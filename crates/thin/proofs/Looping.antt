@@ -209,7 +209,7 @@ module _ (es : List Event) (work : List ℕ) where
   suits-is h f = sym (ap₂ (λ a b. (a && b) && orderly es) f (le-leb workSize (length work) h))
 
 -- the rows begun, the search and `finish`, one after the other, are what `arrange` promises
-pub arranges : (es : List Event) (start v u order : List ℕ) (prefix : ℕ) → (fits es start && orderly es) ≡ true → v ≡ begun start → searchedAs prefix u ≡ searched es v
+pub arranges : (es : List Event) (start v u order : List ℕ) (prefix : ℕ) → (fits es start && orderly es) ≡ true → v ≡ begun 512 start → searchedAs prefix u ≡ searched es v
     → ((i : ℕ) → getD u i 0 < 2 ^ 64) → finished es prefix order u ≡ arranged es order start
 unfolding fits
 arranges es start v u order prefix t is-v is-u small =
@@ -218,5 +218,5 @@ arranges es start v u order prefix t is-v is-u small =
     let few : transactions es ≤ transactionLimit = leb→le (transactions es) transactionLimit (and-left (leb (transactions es) transactionLimit) (leb workSize (length start)) two) in
     let long : workSize ≤ length start = leb→le workSize (length start) (and-right (leb (transactions es) transactionLimit) (leb workSize (length start)) two) in
     let ok : Orderly es = orderly-means es (and-right (leb (transactions es) transactionLimit && leb workSize (length start)) (orderly es) both) in
-    let found : Found es start (searchedAs prefix u) = subst (λ r. Found es start r) (ap (searched es) (sym is-v) ∙ sym is-u) (searched-right es ok few start long) in
+    let found : Found es start (searchedAs prefix u) = subst (λ r. Found es start r) (ap (searched es) (sym is-v) ∙ sym is-u) (searched-right es ok 512 few (omega arith) start long) in
     finished-right es few prefix start u (found-ready es start (searchedAs prefix u) found small) long order

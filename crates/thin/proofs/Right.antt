@@ -2,6 +2,7 @@
 -- document 01's own edges. The records are labelled in any way; their events are orderly.
 --   begun-holds    nothing has been done
 --   closing-right  whether one record more closes a cycle
+--   closing-same   the new sources alone answer that
 --   taken-right    one record more that closes none is taken in
 --   taken-stands   one record more is taken in, cycle or not: the rows stand for the edges with it
 --   taken-row      so row t says who has a path to the record's transaction t
@@ -30,28 +31,31 @@ use Rattle.graph.proofs.Ends.{has-pair}
 use Rattle.graph.proofs.Numbers.{bounded-edges}
 use Rattle.graph.proofs.Standing.{Kept, begun-stands}
 use Rattle.graph.proofs.Steps.{among-none, among-first, among-split, before-first}
-use Rattle.thin.specs.Cells.{Cells, idle, sources, stored, closing, closedRows, takenAs, taken}
+use Rattle.thin.specs.Cells.{Cells, idle, sources, stored, closing, meeting, closedRows, takenAs, taken, closingNew}
 use Rattle.thin.specs.Thin.{sourcesOf, cellsFrom, cellsAfter, thin}
 use Rattle.thin.proofs.Meet.{Orderly}
 use Rattle.thin.proofs.Agree.{eventsIn, edges-agree, paths-agree, cycles-agree, thin-snoc, cells-snoc}
-use Rattle.thin.proofs.Gathering.{closed-stands, closed-kept}
+use Rattle.thin.proofs.Gathering.{meeting-is, closed-stands, closed-kept}
 
--- Cells and rows hold the records xs: the cells are those after them, the rows stand for their edges, their transactions are among the first n
-pub record Holds (xs : List Labelled) (s : Cells) (work : List ℕ) (n : ℕ) : Type 0 where
+-- Cells and the first m rows hold the records xs: the cells are those after them, the rows stand for their edges, their transactions are among the
+-- first n, of at most m
+pub record Holds (m : ℕ) (xs : List Labelled) (s : Cells) (work : List ℕ) (n : ℕ) : Type 0 where
   pub cells : s ≡ cellsAfter xs
-  pub stands : Stands work (edges xs)
+  pub stands : Stands m work (edges xs)
   pub few : (y : Labelled) → Among y xs → y .transaction < n
-  pub most : n ≤ 512
+  pub most : n ≤ m
+  pub square : m ≤ 512
   pub none : cyclic (edges xs) ≡ false
 
 -- Nothing has been done
-pub begun-holds : (work : List ℕ) → 4096 ≤ length work → Holds [] idle (begun work) 0
+pub begun-holds : (m : ℕ) (work : List ℕ) → m ≤ 512 → 4096 ≤ length work → Holds m [] idle (begun m work) 0
 unfolding cellsFrom edges cyclic someOf
-begun-holds work long = record {
+begun-holds m work square long = record {
   cells = refl;
-  stands = begun-stands work long;
+  stands = begun-stands m work square long;
   few = λ y m. absurd (among-none m);
   most = omega arith;
+  square = square;
   none = refl;
 }
 
@@ -100,12 +104,15 @@ module _ (xs : List Labelled) (x : Labelled) (ok : Orderly (eventsIn (xs ++ (x �
       ∙ cyclic-goal (thin xs) (thin all) t bs (λ b. b) (λ b. true) (thin-snoc idle xs x) (cycles-agree xs before ∙ none)
       ∙ some-same (λ b. reaches (thin xs) t b) (λ b. reaches (edges xs) t b) bs (λ b m. paths-agree xs before t b)
 
-  module _ (s : Cells) (work : List ℕ) (m : ℕ) (holds : Holds xs s work m) (in-t : t < 512) where
-    all-few : (y : Labelled) → Among y all → y .transaction < 512
-    all-few y a = among-split xs x a (λ i. omega (arith, holds .few y i, holds .most)) (λ e. subst (λ z. z .transaction < 512) (sym e) in-t)
+  module _ (m : ℕ) (s : Cells) (work : List ℕ) (count : ℕ) (holds : Holds m xs s work count) (in-t : t < m) where
+    in-t₀ : t < 512
+    in-t₀ = omega (arith, holds .square)
 
-    source-small : (b : ℕ) → Among b bs → b < 512
-    source-small b i = let e = has-pair all b t (source-edge b i) in subst (λ k. k < 512) (e .x-of) (all-few (e .x) (first-of (e .order)))
+    all-few : (y : Labelled) → Among y all → y .transaction < m
+    all-few y a = among-split xs x a (λ i. omega (arith, holds .few y i, holds .most)) (λ e. subst (λ z. z .transaction < m) (sym e) in-t)
+
+    source-small : (b : ℕ) → Among b bs → b < m
+    source-small b i = let e = has-pair all b t (source-edge b i) in subst (λ k. k < m) (e .x-of) (all-few (e .x) (first-of (e .order)))
 
     source-other : (b : ℕ) → Among b bs → b ≢ t
     source-other b i = has-pair all b t (source-edge b i) .different
@@ -115,22 +122,31 @@ module _ (xs : List Labelled) (x : Labelled) (ok : Orderly (eventsIn (xs ++ (x �
     unfolding closing
     closing-right =
         ap (λ c. someOf (λ b. has work b t) (sources c t (x .event))) (holds .cells)
-        ∙ some-same (λ b. has work b t) (λ b. reaches (edges xs) t b) bs (λ b i. holds .stands .is t b in-t (source-small b i))
+        ∙ some-same (λ b. has work b t) (λ b. reaches (edges xs) t b) bs (λ b i. holds .stands .is t b in-t₀ (source-small b i))
         ∙ sym (cycle (holds .none))
+
+    -- and by the new sources alone
+    pub closing-same : closingNew s work t (x .event) ≡ closing s work t (x .event)
+    unfolding closing closingNew
+    closing-same =
+        ap (λ b. b && meeting work t (sources s t (x .event))) (lt-ltb t transactionLimit in-t₀)
+        ∙ ap (λ c. meeting work t (sources c t (x .event))) (holds .cells)
+        ∙ meeting-is m (holds .square) work (edges xs) (holds .stands) t in-t (holds .none) bs source-small source-other
+        ∙ ap (λ c. someOf (λ b. has work b t) (sources c t (x .event))) (sym (holds .cells))
 
     -- The rows to look at: all that t reaches, besides its own, are among the first n
     abbrev pub Looks : ℕ → Type 0
-    Looks n = (d : ℕ) → d < 512 → n ≤ d → T (reaches (edges xs) t d) → d ≡ t
+    Looks n = (d : ℕ) → d < m → n ≤ d → T (reaches (edges xs) t d) → d ≡ t
 
     -- enough are the rows of all transactions so far
-    pub looks-all : (n : ℕ) → m ≤ n → Looks n
+    pub looks-all : (n : ℕ) → count ≤ n → Looks n
     looks-all n h d hd le u = go (sound (edges xs) t d u) le
       where
         go : {a b : ℕ} → Path (edges xs) a b → n ≤ b → b ≡ a
         go Path.here l = refl
         go {a} {b} (Path.there {b = c} e p) l =
             let f : Last (edges xs) a b = last-edge (record { mid = c; edge = e; path = p }) in
-            absurd (omega (arith, edge-below m (edges xs) (bounded-edges m xs (holds .few)) (f .mid) b (f .edge) .1))
+            absurd (omega (arith, edge-below count (edges xs) (bounded-edges count xs (holds .few)) (f .mid) b (f .edge) .1))
 
     -- and none, where the record begins its transaction
     pub looks-first : (n : ℕ) → ((y : Labelled) → Among y xs → y .transaction ≢ t) → Looks n
@@ -143,15 +159,15 @@ module _ (xs : List Labelled) (x : Labelled) (ok : Orderly (eventsIn (xs ++ (x �
     module _ (n : ℕ) (in-n : n ≤ 512) (looks : Looks n) where
       taken-is : taken s work n t (x .event) ≡ takenAs (stored s t (x .event)) (closedRows work n t (sources s t (x .event)))
       unfolding taken
-      taken-is = ap (λ b. cond b (takenAs (stored s t (x .event)) (closedRows work n t (sources s t (x .event)))) (takenAs s work)) (lt-ltb t transactionLimit in-t)
+      taken-is = ap (λ b. cond b (takenAs (stored s t (x .event)) (closedRows work n t (sources s t (x .event)))) (takenAs s work)) (lt-ltb t transactionLimit in-t₀)
 
       rows-are : taken s work n t (x .event) .rows ≡ closedRows work n t bs
       rows-are = ap (λ r. r .rows) taken-is ∙ ap (λ c. closedRows work n t (sources c t (x .event))) (holds .cells)
 
       -- The rows stand for the edges with the record, cycle or not
-      pub taken-stands : Stands (taken s work n t (x .event) .rows) (edges all)
-      taken-stands = subst (λ w. Stands w (edges all)) (sym rows-are)
-          (closed-stands work (edges xs) (edges all) (holds .stands) t n in-t in-n bs source-small source-other goal beyond looks)
+      pub taken-stands : Stands m (taken s work n t (x .event) .rows) (edges all)
+      taken-stands = subst (λ w. Stands m w (edges all)) (sym rows-are)
+          (closed-stands m (holds .square) work (edges xs) (edges all) (holds .stands) t n in-t in-n bs source-small source-other goal beyond looks)
 
       -- so row t says who has a path to t
       pub taken-row : (b : ℕ) → b < 512 → has (taken s work n t (x .event) .rows) t b ≡ reaches (edges all) b t
@@ -160,15 +176,16 @@ module _ (xs : List Labelled) (x : Labelled) (ok : Orderly (eventsIn (xs ++ (x �
       -- as many numbers as before, and those past the square stay
       pub taken-kept : Kept work (taken s work n t (x .event) .rows)
       taken-kept = subst (λ w. Kept work w) (sym rows-are)
-          (closed-kept work (edges xs) (edges all) (holds .stands) t n in-t in-n bs source-small source-other goal beyond looks)
+          (closed-kept m (holds .square) work (edges xs) (edges all) (holds .stands) t n in-t in-n bs source-small source-other goal beyond looks)
 
       -- A record that closes no cycle is taken in
-      pub taken-right : (k : ℕ) → m ≤ k → t < k → k ≤ 512 → cyclic (edges all) ≡ false
-          → Holds all (taken s work n t (x .event) .cells) (taken s work n t (x .event) .rows) k
+      pub taken-right : (k : ℕ) → count ≤ k → t < k → k ≤ m → cyclic (edges all) ≡ false
+          → Holds m all (taken s work n t (x .event) .cells) (taken s work n t (x .event) .rows) k
       taken-right k h in-k most none = record {
         cells = ap (λ r. r .cells) taken-is ∙ ap (λ c. stored c t (x .event)) (holds .cells) ∙ sym (cells-snoc idle xs x);
         stands = taken-stands;
         few = λ y i. among-split xs x i (λ j. omega (arith, holds .few y j)) (λ e. subst (λ z. z .transaction < k) (sym e) in-k);
         most = most;
+        square = holds .square;
         none = none;
       }

@@ -22,7 +22,7 @@ use Rattle.graph.specs.Engine.{labelledAs, Stands}
 use Rattle.graph.proofs.Arranging.{Ready}
 use Rattle.graph.proofs.Labels.{labelled-events}
 use Rattle.graph.proofs.Numbers.{sane-none, labels-lt, tally-rises, count-rises, count-begun}
-use Rattle.graph.proofs.Standing.{Kept, kept-then}
+use Rattle.graph.proofs.Standing.{Kept, kept-then, stands-fewer}
 use Rattle.graph.proofs.Steps.{among-end}
 use Rattle.thin.specs.Cells.{Cells, idle, closing, Taken, taken}
 use Rattle.thin.specs.Engine.{looked, Searched, searchedAs, searchedFrom, searched}
@@ -72,29 +72,29 @@ length-snoc u e = omega (arith, length-append u (e ∷ []))
 -- what the walk must answer and leave of es
 pub record Found (es : List Event) (start : List ℕ) (r : Searched) : Type 0 where
   pub first : r .prefix ≡ shortest es
-  pub stands : r .prefix ≡ 0 → Stands (r .rows) (edges (labelled es))
+  pub stands : r .prefix ≡ 0 → Stands (transactions es) (r .rows) (edges (labelled es))
   pub row : (k : ℕ) → r .prefix ≡ suc k → (b : ℕ) → b < 512 → has (r .rows) (transactionAt es k) b ≡ reaches (edgesUpTo es (suc k)) b (transactionAt es k)
   pub kept : Kept start (r .rows)
 
--- where it stands with the records `done` behind it
-record Standing (es : List Event) (start : List ℕ) (done : List Event) (s : Cells) (work : List ℕ) : Type 0 where
-  holds : Holds (labelled done) s work (tallyFrom none-yet done .count)
+-- where it stands with the records `done` behind it and m rows
+record Standing (m : ℕ) (es : List Event) (start : List ℕ) (done : List Event) (s : Cells) (work : List ℕ) : Type 0 where
+  holds : Holds m (labelled done) s work (tallyFrom none-yet done .count)
   none : (j : ℕ) → 1 ≤ j → j ≤ length done → cyclicUpTo es j ≡ false
   kept : Kept start work
 
 -- nothing is left
-found-none : (es : List Event) (start : List ℕ) (s : Cells) (work : List ℕ) → Standing es start es s work → Found es start (searchedAs 0 work)
-unfolding shortest
-found-none es start s work at = record {
-  first = sym (first-default (cyclicUpTo es) 0 (from 1 (length es)) (λ j m. at .none j (from-le 1 (length es) j m) (omega (arith, from-bound 1 (length es) j m))));
-  stands = λ z. at .holds .stands;
+found-none : (m : ℕ) (es : List Event) (start : List ℕ) (s : Cells) (work : List ℕ) → Standing m es start es s work → Found es start (searchedAs 0 work)
+unfolding shortest transactions
+found-none m es start s work at = record {
+  first = sym (first-default (cyclicUpTo es) 0 (from 1 (length es)) (λ j i. at .none j (from-le 1 (length es) j i) (omega (arith, from-bound 1 (length es) j i))));
+  stands = λ z. stands-fewer m (transactions es) work (edges (labelled es)) (at .holds .most) (at .holds .stands);
   row = λ k q. absurd (omega arith);
   kept = at .kept;
 }
 
 -- one record e more, with `rest` after it
-module _ (start : List ℕ) (done : List Event) (e : Event) (rest : List Event) (s : Cells) (work : List ℕ) (ok : Orderly (done ++ (e ∷ []) ++ rest))
-    (few : transactions (done ++ (e ∷ []) ++ rest) ≤ transactionLimit) (at : Standing (done ++ (e ∷ []) ++ rest) start done s work) where
+module _ (m : ℕ) (start : List ℕ) (done : List Event) (e : Event) (rest : List Event) (s : Cells) (work : List ℕ) (ok : Orderly (done ++ (e ∷ []) ++ rest))
+    (few : transactions (done ++ (e ∷ []) ++ rest) ≤ m) (at : Standing m (done ++ (e ∷ []) ++ rest) start done s work) where
   abbrev es : List Event
   es = done ++ (e ∷ []) ++ rest
 
@@ -118,7 +118,7 @@ module _ (start : List ℕ) (done : List Event) (e : Event) (rest : List Event) 
   unfolding tallyFrom
   tally-more = tally-append none-yet done (e ∷ [])
 
-  few-more : tallied tally e .count ≤ transactionLimit
+  few-more : tallied tally e .count ≤ m
   unfolding transactions
   few-more = omega (arith, few, tally-rises (tallyFrom none-yet (done ++ (e ∷ []))) rest, ap (λ u. u .count) (tally-append none-yet (done ++ (e ∷ [])) rest), ap (λ u. u .count) tally-more)
 
@@ -127,13 +127,13 @@ module _ (start : List ℕ) (done : List Event) (e : Event) (rest : List Event) 
   not-full = by (full tally e)
       (λ f. let b : begins tally e ≡ true = T-is (begins tally e) (and-left (begins tally e) (leb transactionLimit (tally .count)) (T-of f)) in
       let h : transactionLimit ≤ tally .count = leb→le transactionLimit (tally .count) (and-right (begins tally e) (leb transactionLimit (tally .count)) (T-of f)) in
-      absurd (omega (arith, count-begun tally e b, few-more)))
+      absurd (omega (arith, count-begun tally e b, few-more, at .holds .square)))
       (λ f. f)
 
   below-count : a < tallied tally e .count
   below-count = subst (λ u. a < u .count) tally-more (labels-lt none-yet (done ++ (e ∷ [])) sane-none x (subst (λ l. Among x l) (sym labels-more) (among-end xs x)))
 
-  in-a : a < 512
+  in-a : a < m
   in-a = omega (arith, below-count, few-more)
 
   fits : Orderly (eventsIn (xs ++ (x ∷ [])))
@@ -149,7 +149,7 @@ module _ (start : List ℕ) (done : List Event) (e : Event) (rest : List Event) 
 
   cyclic-is : closing s work a e ≡ cyclicUpTo es (suc (length done))
   unfolding cyclicUpTo
-  cyclic-is = closing-right xs x fits s work (tally .count) (at .holds) in-a ∙ ap cyclic (sym edges-are)
+  cyclic-is = closing-right xs x fits m s work (tally .count) (at .holds) in-a ∙ ap cyclic (sym edges-are)
 
   -- the rows to look at are enough
   abbrev n : ℕ
@@ -159,19 +159,19 @@ module _ (start : List ℕ) (done : List Event) (e : Event) (rest : List Event) 
   unfolding looked
   in-n = by (eqb a (tally .count))
       (λ q. omega (arith, ap (λ b. cond b 0 (tally .count)) q))
-      (λ q. omega (arith, ap (λ b. cond b 0 (tally .count)) q, at .holds .most))
+      (λ q. omega (arith, ap (λ b. cond b 0 (tally .count)) q, at .holds .most, at .holds .square))
 
-  looks : Looks xs x fits s work (tally .count) (at .holds) in-a n
+  looks : Looks xs x fits m s work (tally .count) (at .holds) in-a n
   unfolding looked
   looks = by-same a (tally .count)
-      (λ q. looks-first xs x fits s work (tally .count) (at .holds) in-a n (λ y m z. omega (arith, at .holds .few y m)))
-      (λ ne. looks-all xs x fits s work (tally .count) (at .holds) in-a n (omega (arith, ap (λ b. cond b 0 (tally .count)) (ne-eqb a (tally .count) ne))))
+      (λ q. looks-first xs x fits m s work (tally .count) (at .holds) in-a n (λ y i z. omega (arith, at .holds .few y i)))
+      (λ ne. looks-all xs x fits m s work (tally .count) (at .holds) in-a n (omega (arith, ap (λ b. cond b 0 (tally .count)) (ne-eqb a (tally .count) ne))))
 
   abbrev after : Taken
   after = taken s work n a e
 
   kept-after : Kept start (after .rows)
-  kept-after = let k : Kept work (after .rows) = taken-kept xs x fits s work (tally .count) (at .holds) in-a n in-n looks in
+  kept-after = let k : Kept work (after .rows) = taken-kept xs x fits m s work (tally .count) (at .holds) in-a n in-n looks in
       kept-then start work (after .rows) (at .kept) (k .size) (k .rest)
 
   transaction-is : transactionAt es (length done) ≡ a
@@ -203,53 +203,53 @@ module _ (start : List ℕ) (done : List Event) (e : Event) (rest : List Event) 
         (λ j lo hi. at .none j lo (omega arith)));
     stands = λ z. absurd (omega arith);
     row = λ k q b hb. let same : length done ≡ k = omega arith in
-        subst (λ m. has (after .rows) (transactionAt es m) b ≡ reaches (edgesUpTo es (suc m)) b (transactionAt es m)) same
+        subst (λ j. has (after .rows) (transactionAt es j) b ≡ reaches (edgesUpTo es (suc j)) b (transactionAt es j)) same
         (subst (λ t. has (after .rows) t b ≡ reaches (edgesUpTo es (suc (length done))) b t) (sym transaction-is)
-        (taken-row xs x fits s work (tally .count) (at .holds) in-a n in-n looks b hb ∙ ap (λ g. reaches g b a) (sym edges-are)));
+        (taken-row xs x fits m s work (tally .count) (at .holds) in-a n in-n looks b hb ∙ ap (λ g. reaches g b a) (sym edges-are)));
     kept = kept-after;
   }
 
   -- it closes none
-  standing-on : closing s work a e ≡ false → Standing es start (done ++ (e ∷ [])) (after .cells) (after .rows)
+  standing-on : closing s work a e ≡ false → Standing m es start (done ++ (e ∷ [])) (after .cells) (after .rows)
   standing-on c = record {
-    holds = subst (λ u. Holds (labelled (done ++ (e ∷ []))) (after .cells) (after .rows) (u .count)) (sym tally-more)
-        (subst (λ l. Holds l (after .cells) (after .rows) (tallied tally e .count)) (sym labels-more)
-        (taken-right xs x fits s work (tally .count) (at .holds) in-a n in-n looks (tallied tally e .count) (count-rises tally e) below-count few-more
-        (sym (closing-right xs x fits s work (tally .count) (at .holds) in-a) ∙ c)));
+    holds = subst (λ u. Holds m (labelled (done ++ (e ∷ []))) (after .cells) (after .rows) (u .count)) (sym tally-more)
+        (subst (λ l. Holds m l (after .cells) (after .rows) (tallied tally e .count)) (sym labels-more)
+        (taken-right xs x fits m s work (tally .count) (at .holds) in-a n in-n looks (tallied tally e .count) (count-rises tally e) below-count few-more
+        (sym (closing-right xs x fits m s work (tally .count) (at .holds) in-a) ∙ c)));
     none = λ j lo hi. by-same j (suc (length done))
         (λ q. ap (cyclicUpTo es) q ∙ sym cyclic-is ∙ c)
         (λ ne. at .none j lo (omega (arith, length-snoc done e)));
     kept = kept-after;
   }
 
-search-from : (start : List ℕ) (rest done : List Event) (s : Cells) (work : List ℕ) → Orderly (done ++ rest) → transactions (done ++ rest) ≤ transactionLimit
-    → Standing (done ++ rest) start done s work → Found (done ++ rest) start (searchedFrom (tallyFrom none-yet done) s work (length done) rest)
+search-from : (m : ℕ) (start : List ℕ) (rest done : List Event) (s : Cells) (work : List ℕ) → Orderly (done ++ rest) → transactions (done ++ rest) ≤ m
+    → Standing m (done ++ rest) start done s work → Found (done ++ rest) start (searchedFrom (tallyFrom none-yet done) s work (length done) rest)
 unfolding searchedFrom
-search-from start [] done s work ok few at =
-    subst (λ l. Found l start (searchedAs 0 work)) (sym (append-nil done)) (found-none done start s work (subst (λ l. Standing l start done s work) (append-nil done) at))
-search-from start (e ∷ rest) done s work ok few at =
+search-from m start [] done s work ok few at =
+    subst (λ l. Found l start (searchedAs 0 work)) (sym (append-nil done)) (found-none m done start s work (subst (λ l. Standing m l start done s work) (append-nil done) at))
+search-from m start (e ∷ rest) done s work ok few at =
     let q : done ++ (e ∷ []) ++ rest ≡ done ++ e ∷ rest = append-snoc done e rest in
     let ok′ : Orderly (done ++ (e ∷ []) ++ rest) = subst (λ l. Orderly l) (sym q) ok in
-    let few′ : transactions (done ++ (e ∷ []) ++ rest) ≤ transactionLimit = subst (λ l. transactions l ≤ transactionLimit) (sym q) few in
-    let at′ : Standing (done ++ (e ∷ []) ++ rest) start done s work = subst (λ l. Standing l start done s work) (sym q) at in
+    let few′ : transactions (done ++ (e ∷ []) ++ rest) ≤ m = subst (λ l. transactions l ≤ m) (sym q) few in
+    let at′ : Standing m (done ++ (e ∷ []) ++ rest) start done s work = subst (λ l. Standing m l start done s work) (sym q) at in
     let tally : Tally = tallyFrom none-yet done in
     let after : Taken = taken s work (looked (belongs tally e) (tally .count)) (belongs tally e) e in
-    let open-ended : full tally e ≡ false = not-full start done e rest s work ok′ few′ at′ in
+    let open-ended : full tally e ≡ false = not-full m start done e rest s work ok′ few′ at′ in
     subst (λ l. Found l start (searchedFrom tally s work (length done) (e ∷ rest))) q
     (by (closing s work (belongs tally e) e)
-    (λ c. subst (λ r. Found (done ++ (e ∷ []) ++ rest) start r) (sym (searched-hit tally s work (length done) e rest open-ended c)) (found-hit start done e rest s work ok′ few′ at′ c))
+    (λ c. subst (λ r. Found (done ++ (e ∷ []) ++ rest) start r) (sym (searched-hit tally s work (length done) e rest open-ended c)) (found-hit m start done e rest s work ok′ few′ at′ c))
     (λ c. subst (λ r. Found (done ++ (e ∷ []) ++ rest) start r)
     (sym (searched-on tally s work (length done) e rest open-ended c
-    ∙ ap₂ (λ u k. searchedFrom u (after .cells) (after .rows) k rest) (sym (tally-more start done e rest s work ok′ few′ at′)) (sym (length-snoc done e))))
-    (search-from start rest (done ++ (e ∷ [])) (after .cells) (after .rows) ok′ few′ (standing-on start done e rest s work ok′ few′ at′ c))))
+    ∙ ap₂ (λ u k. searchedFrom u (after .cells) (after .rows) k rest) (sym (tally-more m start done e rest s work ok′ few′ at′)) (sym (length-snoc done e))))
+    (search-from m start rest (done ++ (e ∷ [])) (after .cells) (after .rows) ok′ few′ (standing-on m start done e rest s work ok′ few′ at′ c))))
 
--- The walk from the beginning
-pub searched-right : (es : List Event) → Orderly es → transactions es ≤ transactionLimit → (start : List ℕ) → 4096 ≤ length start → Found es start (searched es (begun start))
+-- The walk from the beginning, over m rows that are marked
+pub searched-right : (es : List Event) → Orderly es → (m : ℕ) → transactions es ≤ m → m ≤ 512 → (start : List ℕ) → 4096 ≤ length start → Found es start (searched es (begun m start))
 unfolding searched none-yet labelledFrom tallyFrom
-searched-right es ok few start long = search-from start es [] idle (begun start) ok few (record {
-  holds = begun-holds start long;
+searched-right es ok m few square start long = search-from m start es [] idle (begun m start) ok few (record {
+  holds = begun-holds m start square long;
   none = λ j lo hi. absurd (omega arith);
-  kept = record { size = length-begun start long; rest = rest-begun start long };
+  kept = record { size = length-begun m start long; rest = rest-begun m start long };
 })
 
 -- and so what `finish` needs

@@ -141,7 +141,7 @@ takenAs s work = record { cells = s; rows = work }
 unfoldable pub taken : Cells → List ℕ → ℕ → ℕ → Event → Taken
 taken s work n a e = cond (ltb a transactionLimit) (takenAs (stored s a e) (closedRows work n a (sources s a e))) (takenAs s work)
 
--- Whether that closes a cycle, by the sources that are new. Where the rows stand for edges without a cycle, it is `closing` (proofs/Meeting)
+-- Whether that closes a cycle, by the sources that are new. Where the rows stand for edges without a cycle, it is `closing` (`closing-same` in proofs/Right)
 unfoldable pub closingNew : Cells → List ℕ → ℕ → Event → Bool
 closingNew s work a e = ltb a transactionLimit && meeting work a (sources s a e)
 

@@ -133,7 +133,7 @@ pub fn arrange(
 {
     let number = graph::at_most_all(count);
     if suits(all, number, work) {
-        rows::begin(work);
+        rows::begin(work, 512);
         let prefix = search::search(all, number, work);
         return graph::finish(all, number, prefix, order, work);
     }

@@ -19,7 +19,7 @@ begin-requires c κs = search needs
 first-cycle-requires : tie.Need-first-cycle-requires
 first-cycle-requires c κs =
     let s = c .before .before .before .before .before .before .before in
-    ((omega arith, λ i l. omega (arith, labels-below (s .args .count) (s .args .all) (s .args .labels .now) (s .args .n) (s .pre .1) i l, s .pre .1 .2)), subst (λ (w : List ℕ). Stands w []) (sym (c .before .before .before .begin .ensures)) (begun-stands (s .args .work .now) (omega arith)))
+    ((omega arith, λ i l. omega (arith, labels-below (s .args .count) (s .args .all) (s .args .labels .now) (s .args .n) (s .pre .1) i l, s .pre .1 .2)), subst (λ (w : List ℕ). Stands 512 w []) (sym (c .before .before .before .begin .ensures)) (begun-stands 512 (s .args .work .now) (omega arith) (omega arith)))
 
 finish-labelled-requires : tie.Need-finish-labelled-requires
 finish-labelled-requires c κs =
@@ -44,7 +44,7 @@ returns c =
     let h = s .pre .1 in
     let size : length (begun .last .0) ≡ length (s .args .work .now) = begun .kept .0 in
     let found = ready (s .args .count) (s .args .all) (s .args .labels .now) (s .args .n) h (sought .result) (begun .last .0) (sought .last .0) (sought .ensures)
-    (s .args .work .now) (λ i. omega (arith, known .given i)) (sought .kept .0 ∙ size) (ap (drop 4096) (begun .ensures) ∙ rest-begun (s .args .work .now) (omega arith)) in
+    (s .args .work .now) (λ i. omega (arith, known .given i)) (sought .kept .0 ∙ size) (ap (drop 4096) (begun .ensures) ∙ rest-begun 512 (s .args .work .now) (omega arith)) in
     ended .ensures
     ∙ finished-right (take (s .args .count) (s .args .all)) (omega (arith, h .1, h .2)) (sought .result) (s .args .work .now) (sought .last .0) found (omega arith) (s .args .order .now)
 
