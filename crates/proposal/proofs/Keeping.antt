@@ -38,14 +38,14 @@ use Rattle.proposal.proofs.Weaving.{placed-unmarked, placed-marked}
 -- Cells and rows hold the labelled records, and the tally is theirs
 pub record Represents (built : List Event) (k : Kept) : Type 0 where
   pub tally-is : k .tally ≡ tally built
-  pub holds : Holds (labelled built) (k .cells) (k .rows) (tally built .count)
+  pub holds : Holds 512 (labelled built) (k .cells) (k .rows) (tally built .count)
 
 -- Nothing has been built
-pub represents-none : (k : Kept) (work : List ℕ) → 4096 ≤ length work → k .cells ≡ idle → k .rows ≡ begun work → k .tally ≡ none-yet → Represents [] k
+pub represents-none : (k : Kept) (work : List ℕ) → 4096 ≤ length work → k .cells ≡ idle → k .rows ≡ begun 512 work → k .tally ≡ none-yet → Represents [] k
 unfolding labelledFrom tallyFrom none-yet
 represents-none k work long c r t = record {
   tally-is = t;
-  holds = subst (λ s. Holds [] s (k .rows) 0) (sym c) (subst (λ w. Holds [] idle w 0) (sym r) (begun-holds work long));
+  holds = subst (λ s. Holds 512 [] s (k .rows) 0) (sym c) (subst (λ w. Holds 512 [] idle w 0) (sym r) (begun-holds 512 work (omega arith) long));
 }
 
 -- ---- the labelled records with one more
@@ -95,21 +95,21 @@ module _ (built : List Event) (e : Event) where
             tally = tallied s e;
           }) (r .tally-is)
 
-      looks : Looks (labelled built) x ok-more (k .cells) (k .rows) (tally built .count) (r .holds) small (tallied (tally built) e .count)
-      looks = looks-all (labelled built) x ok-more (k .cells) (k .rows) (tally built .count) (r .holds) small (tallied (tally built) e .count) (count-rises (tally built) e)
+      looks : Looks (labelled built) x ok-more 512 (k .cells) (k .rows) (tally built .count) (r .holds) small (tallied (tally built) e .count)
+      looks = looks-all (labelled built) x ok-more 512 (k .cells) (k .rows) (tally built .count) (r .holds) small (tallied (tally built) e .count) (count-rises (tally built) e)
 
       pub put-right : cyclic (edges (labelled (built ++ (e ∷ [])))) ≡ false → Represents (built ++ (e ∷ [])) (putIn k e)
       put-right none = subst (Represents (built ++ (e ∷ []))) (sym put-is) (record {
         tally-is = sym tally-more;
-        holds = subst (λ l. Holds l (next .cells) (next .rows) (tally (built ++ (e ∷ [])) .count)) (sym (labelled-more built e))
-            (subst (λ s. Holds (labelled built ++ (x ∷ [])) (next .cells) (next .rows) (s .count)) (sym tally-more)
-            (taken-right (labelled built) x ok-more (k .cells) (k .rows) (tally built .count) (r .holds) small (tallied (tally built) e .count) few looks
+        holds = subst (λ l. Holds 512 l (next .cells) (next .rows) (tally (built ++ (e ∷ [])) .count)) (sym (labelled-more built e))
+            (subst (λ s. Holds 512 (labelled built ++ (x ∷ [])) (next .cells) (next .rows) (s .count)) (sym tally-more)
+            (taken-right (labelled built) x ok-more 512 (k .cells) (k .rows) (tally built .count) (r .holds) small (tallied (tally built) e .count) few looks
             (tallied (tally built) e .count) (count-rises (tally built) e) belongs-small few (ap (λ l. cyclic (edges l)) (sym (labelled-more built e)) ∙ none)));
       })
 
       pub put-rest : drop 4096 (putIn k e .rows) ≡ drop 4096 (k .rows)
       put-rest = ap (λ j. drop 4096 (j .rows)) put-is
-          ∙ taken-kept (labelled built) x ok-more (k .cells) (k .rows) (tally built .count) (r .holds) small (tallied (tally built) e .count) few looks .rest
+          ∙ taken-kept (labelled built) x ok-more 512 (k .cells) (k .rows) (tally built .count) (r .holds) small (tallied (tally built) e .count) few looks .rest
 
     -- ---- whether an event needs a yield
 
@@ -124,7 +124,7 @@ module _ (built : List Event) (e : Event) where
         (λ b. ap (λ c. cond c false (closing (k .cells) (k .rows) (pred own) e)) b ∙ sym (begins-none built (r .holds .none) e b))
         (λ b. ap (λ c. cond c false (closing (k .cells) (k .rows) (pred own) e)) b
         ∙ ap (λ a. closing (k .cells) (k .rows) a e) (sym (belongs-open s e b))
-        ∙ closing-right (labelled built) x ok-more (k .cells) (k .rows) (s .count) (r .holds) (omega (arith, belongs-small, count-unbegun s e b, r .holds .most))
+        ∙ closing-right (labelled built) x ok-more 512 (k .cells) (k .rows) (s .count) (r .holds) (omega (arith, belongs-small, count-unbegun s e b, r .holds .most))
         ∙ ap (λ l. cyclic (edges l)) (sym (labelled-more built e)))
 
 -- ---- room

@@ -191,7 +191,7 @@ pub fn walk(all: [Event; 1024], count: usize, marks: &mut [u8], work: &mut [u64]
     requires { ⌜ (count ≤ 1024) × (length (now marks) ≡ 1024) × (4096 ≤ length (now work)) × T (possible fresh (take count all)) × T (allOf inRange (take count all)) ⌝ }
     ensures { λ r. ⌜ Walked count all (now (marks .exit)) (now (work .entry)) (now (work .exit)) r ⌝ }
 {
-    rows::begin(work);
+    rows::begin(work, 512);
     let mut locks = [0u16; 32];
     let mut threads = [0u16; 16];
     let mut writers = [0u16; 256];

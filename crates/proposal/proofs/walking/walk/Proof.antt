@@ -48,7 +48,7 @@ most c =
 
 -- rows past the square are those of before
 kept-rest : (c : tie.At-loop Inv-loop μ-loop) → drop 4096 (rowsAt c) ≡ drop 4096 (c .before .before .before .before .before .before .before .args .work .now)
-kept-rest c = ap (drop 4096) (c .before .before .before .begin .ensures) ∙ rest-begun (c .before .before .before .before .before .before .before .args .work .now) (c .before .before .before .before .before .before .before .pre .2)
+kept-rest c = ap (drop 4096) (c .before .before .before .begin .ensures) ∙ rest-begun 512 (c .before .before .before .before .before .before .before .args .work .now) (c .before .before .before .before .before .before .before .pre .2)
 
 -- the step is that of the walk
 right : (c : tie.After-slice-known4 Inv-loop μ-loop) →
@@ -95,7 +95,7 @@ same-length c = c .before .before .before .before .before .before .before .befor
 
 same-length-2 : tie.Need-same-length-2 Inv-loop μ-loop
 same-length-2 c =
-    c .before .before .before .place .kept .1 .1 .1 .1 .0 ∙ c .before .before .before .before .before .before .before .before .before .before .before .before .before .loop .inv .2 ∙ ap length (c .before .before .before .before .before .before .before .before .before .before .before .before .before .before .before .before .begin .ensures) ∙ length-begun (c .before .before .before .before .before .before .before .before .before .before .before .before .before .before .before .before .before .before .before .before .args .work .now) (c .before .before .before .before .before .before .before .before .before .before .before .before .before .before .before .before .before .before .before .before .pre .2)
+    c .before .before .before .place .kept .1 .1 .1 .1 .0 ∙ c .before .before .before .before .before .before .before .before .before .before .before .before .before .loop .inv .2 ∙ ap length (c .before .before .before .before .before .before .before .before .before .before .before .before .before .before .before .before .begin .ensures) ∙ length-begun 512 (c .before .before .before .before .before .before .before .before .before .before .before .before .before .before .before .before .before .before .before .before .args .work .now) (c .before .before .before .before .before .before .before .before .before .before .before .before .before .before .before .before .before .before .before .before .pre .2)
 
 returns : tie.Need-returns Inv-loop μ-loop
 returns c =
@@ -143,7 +143,7 @@ same-length-3 : tie.Need-same-length-3 Inv-loop μ-loop
 same-length-3 c = c .before .loop .inv .3 ∙ sym (c .before .before .before .before .before .before .before .before .pre .1)
 
 same-length-4 : tie.Need-same-length-4 Inv-loop μ-loop
-same-length-4 c = c .before .loop .inv .2 ∙ ap length (c .before .before .before .before .begin .ensures) ∙ length-begun (c .before .before .before .before .before .before .before .before .args .work .now) (c .before .before .before .before .before .before .before .before .pre .2)
+same-length-4 c = c .before .loop .inv .2 ∙ ap length (c .before .before .before .before .begin .ensures) ∙ length-begun 512 (c .before .before .before .before .before .before .before .before .args .work .now) (c .before .before .before .before .before .before .before .before .pre .2)
 
 returns-2 : tie.Need-returns-2 Inv-loop μ-loop
 returns-2 c =
