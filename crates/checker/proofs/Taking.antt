@@ -23,8 +23,7 @@ use Rattle.graph.specs.Conflict.{forks, joins}
 use Rattle.thin.specs.Orderly.{ranged, unseen, seen, ended, lifeOf, fitting, livesAfter, orderlyFrom, orderly}
 use Rattle.thin.proofs.Keys.{of-thread, of-target}
 use Rattle.thin.proofs.Meet.{of-child}
-use Rattle.thin.proofs.Walk.{orderly-on}
-use Rattle.thin.proofs.Looping.{fork-fits, other-fits, see-fork, see-join, see-other}
+use Rattle.thin.proofs.Walk.{orderly-on, fork-fits, other-fits, see-fork, see-join, see-other}
 use Rattle.checker.specs.Refusals.{refusal, events}
 use Rattle.checker.proofs.Passed.{passed}
 use Rattle.checker.proofs.Demand3 as Demand3

@@ -7,5 +7,5 @@ pub mod Gathering
 pub mod Right
 pub mod Sources
 pub mod Searching
-pub mod Looping
+pub mod Walking
 pub mod Examples

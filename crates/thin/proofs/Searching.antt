@@ -1,56 +1,36 @@
 -- The walk over the records finds the shortest prefix with a cycle, and leaves the rows by which the order or the cycle is named.
-use Prim.Native.Nat.{ℕ, suc, _<_, _≤_, _^_}
+use Prim.Native.Nat.{ℕ, suc, _+_, _<_, _≤_, _^_}
 use native.Mathlib.Omega.{arith}
+use native.Mathlib.Numerals.{add-one}
 use mathlib.Core.Path.{_≡_, refl, sym, ap, ap₂, _∙_, subst}
 use mathlib.Core.Bool.{true, false, cond}
-use mathlib.Core.List.{List, [], _∷_, _++_, map, append-nil}
-use borrow.Author.Tests.{ne-eqb}
-use lib.Dec.{eqb, leb, leb→le}
-use lib.ListN.{length, getD, take, length-append}
-use lib.Seq.{append-snoc, take-at, getD-at}
+use mathlib.Core.List.{List, [], _∷_, _++_, map}
+use borrow.Author.Tests.{eq-eqb, ne-eqb}
+use lib.Dec.{eqb}
+use lib.ListN.{length, getD, set, take, drop, length-append}
+use lib.Seq.{append-snoc, take-at, take-all, getD-at, getD-set-same, getD-set-other, length-take-le, split-at}
 use Rattle.record.specs.declared.Event.{Event}
 use Rattle.trace.specs.Lists.{from}
 use Rattle.trace.specs.Paths.{reaches, cyclic}
-use Rattle.trace.proofs.Tests.{by, by-same, T-of, T-is, and-left, and-right}
+use Rattle.trace.proofs.Tests.{by, by-same}
 use Rattle.trace.proofs.Lists.{Among, first-default, first-is, from-le, from-bound, map-append}
 use Rattle.rows.specs.Bits.{has, begun}
 use Rattle.rows.proofs.Laws.{length-begun, rest-begun}
-use Rattle.graph.specs.Transactions.{Tally, none-yet, begins, belongs, tallied, full, Labelled, labelledFrom, labelled, tallyFrom, transactions, transactionLimit}
+use Rattle.graph.specs.Transactions.{Tally, none-yet, begins, belongs, tallied, Labelled, labelledFrom, labelled, tallyFrom, transactions, transactionLimit}
 use Rattle.graph.specs.Edges.{edges}
 use Rattle.graph.specs.Violation.{edgesUpTo, cyclicUpTo, shortest, transactionAt}
-use Rattle.graph.specs.Engine.{labelledAs, Stands}
+use Rattle.graph.specs.Serial.{threadOf}
+use Rattle.graph.specs.Engine.{pastEnd, labelledAs}
 use Rattle.graph.proofs.Arranging.{Ready}
 use Rattle.graph.proofs.Labels.{labelled-events}
-use Rattle.graph.proofs.Numbers.{sane-none, labels-lt, tally-rises, count-rises, count-begun}
+use Rattle.graph.proofs.Numbers.{sane-none, labels-lt, tally-rises, count-rises, count-begun, count-unbegun, belongs-first, owned}
 use Rattle.graph.proofs.Standing.{Kept, kept-then, stands-fewer}
-use Rattle.graph.proofs.Steps.{among-end}
-use Rattle.thin.specs.Cells.{Cells, idle, closing, Taken, taken}
-use Rattle.thin.specs.Engine.{looked, Searched, searchedAs, searchedFrom, searched}
+use Rattle.graph.proofs.Steps.{among-end, among-first}
+use Rattle.thin.specs.Cells.{Cells, idle, closing, Taken, takenAs, taken, closingNew}
+use Rattle.thin.specs.Engine.{looked, Found}
 use Rattle.thin.proofs.Meet.{Orderly}
 use Rattle.thin.proofs.Agree.{eventsIn}
-use Rattle.thin.proofs.Right.{Holds, begun-holds, orderly-first, closing-right, Looks, looks-all, looks-first, taken-row, taken-kept, taken-right}
-
--- ---- one record
-
-module _ (tally : Tally) (s : Cells) (work : List ℕ) (k : ℕ) (e : Event) (es : List Event) where
-  abbrev next : Taken
-  next = taken s work (looked (belongs tally e) (tally .count)) (belongs tally e) e
-
-  -- it would begin a 513th transaction
-  pub searched-full : full tally e ≡ true → searchedFrom tally s work k (e ∷ es) ≡ searchedAs 0 work
-  unfolding searchedFrom
-  searched-full f = rw (f, searchedFrom)
-
-  -- it closes a cycle
-  pub searched-hit : full tally e ≡ false → closing s work (belongs tally e) e ≡ true → searchedFrom tally s work k (e ∷ es) ≡ searchedAs (suc k) (next .rows)
-  unfolding searchedFrom
-  searched-hit f c = rw (f, c, searchedFrom)
-
-  -- it closes none
-  pub searched-on : full tally e ≡ false → closing s work (belongs tally e) e ≡ false
-      → searchedFrom tally s work k (e ∷ es) ≡ searchedFrom (tallied tally e) (next .cells) (next .rows) (suc k) es
-  unfolding searchedFrom
-  searched-on f c = rw (f, c, searchedFrom)
+use Rattle.thin.proofs.Right.{Holds, begun-holds, orderly-first, closing-right, closing-same, Looks, looks-all, looks-first, taken-row, taken-kept, taken-right}
 
 -- ---- labels and counts of one run of events after another
 
@@ -64,57 +44,51 @@ unfolding tallyFrom
 tally-append s [] v = refl
 tally-append s (e ∷ u) v = tally-append (tallied s e) u v
 
-length-snoc : (u : List Event) (e : Event) → length (u ++ (e ∷ [])) ≡ suc (length u)
+pub length-snoc : (u : List Event) (e : Event) → length (u ++ (e ∷ [])) ≡ suc (length u)
 length-snoc u e = omega (arith, length-append u (e ∷ []))
 
 -- ---- the walk
 
--- what the walk must answer and leave of es
-pub record Found (es : List Event) (start : List ℕ) (r : Searched) : Type 0 where
-  pub first : r .prefix ≡ shortest es
-  pub stands : r .prefix ≡ 0 → Stands (transactions es) (r .rows) (edges (labelled es))
-  pub row : (k : ℕ) → r .prefix ≡ suc k → (b : ℕ) → b < 512 → has (r .rows) (transactionAt es k) b ≡ reaches (edgesUpTo es (suc k)) b (transactionAt es k)
-  pub kept : Kept start (r .rows)
-
 -- where it stands with the records `done` behind it and m rows
-record Standing (m : ℕ) (es : List Event) (start : List ℕ) (done : List Event) (s : Cells) (work : List ℕ) : Type 0 where
-  holds : Holds m (labelled done) s work (tallyFrom none-yet done .count)
-  none : (j : ℕ) → 1 ≤ j → j ≤ length done → cyclicUpTo es j ≡ false
-  kept : Kept start work
+pub record Standing (m : ℕ) (es : List Event) (start : List ℕ) (done : List Event) (s : Cells) (work : List ℕ) : Type 0 where
+  pub holds : Holds m (labelled done) s work (tallyFrom none-yet done .count)
+  pub none : (j : ℕ) → 1 ≤ j → j ≤ length done → cyclicUpTo es j ≡ false
+  pub kept : Kept start work
 
 -- nothing is left
-found-none : (m : ℕ) (es : List Event) (start : List ℕ) (s : Cells) (work : List ℕ) → Standing m es start es s work → Found es start (searchedAs 0 work)
+pub found-none : (m : ℕ) (es : List Event) (start : List ℕ) (s : Cells) (work : List ℕ) → Standing m es start es s work → Found es start 0 work
 unfolding shortest transactions
 found-none m es start s work at = record {
   first = sym (first-default (cyclicUpTo es) 0 (from 1 (length es)) (λ j i. at .none j (from-le 1 (length es) j i) (omega (arith, from-bound 1 (length es) j i))));
   stands = λ z. stands-fewer m (transactions es) work (edges (labelled es)) (at .holds .most) (at .holds .stands);
   row = λ k q. absurd (omega arith);
-  kept = at .kept;
+  size = at .kept .size;
+  rest = at .kept .rest;
 }
 
 -- one record e more, with `rest` after it
 module _ (m : ℕ) (start : List ℕ) (done : List Event) (e : Event) (rest : List Event) (s : Cells) (work : List ℕ) (ok : Orderly (done ++ (e ∷ []) ++ rest))
     (few : transactions (done ++ (e ∷ []) ++ rest) ≤ m) (at : Standing m (done ++ (e ∷ []) ++ rest) start done s work) where
-  abbrev es : List Event
+  abbrev pub es : List Event
   es = done ++ (e ∷ []) ++ rest
 
-  abbrev tally : Tally
+  abbrev pub tally : Tally
   tally = tallyFrom none-yet done
 
-  abbrev a : ℕ
+  abbrev pub a : ℕ
   a = belongs tally e
 
-  abbrev xs : List Labelled
+  abbrev pub xs : List Labelled
   xs = labelled done
 
-  abbrev x : Labelled
+  abbrev pub x : Labelled
   x = labelledAs a e
 
-  labels-more : labelled (done ++ (e ∷ [])) ≡ xs ++ (x ∷ [])
+  pub labels-more : labelled (done ++ (e ∷ [])) ≡ xs ++ (x ∷ [])
   unfolding labelledFrom
   labels-more = labelled-append none-yet done (e ∷ [])
 
-  tally-more : tallyFrom none-yet (done ++ (e ∷ [])) ≡ tallied tally e
+  pub tally-more : tallyFrom none-yet (done ++ (e ∷ [])) ≡ tallied tally e
   unfolding tallyFrom
   tally-more = tally-append none-yet done (e ∷ [])
 
@@ -122,18 +96,10 @@ module _ (m : ℕ) (start : List ℕ) (done : List Event) (e : Event) (rest : Li
   unfolding transactions
   few-more = omega (arith, few, tally-rises (tallyFrom none-yet (done ++ (e ∷ []))) rest, ap (λ u. u .count) (tally-append none-yet (done ++ (e ∷ [])) rest), ap (λ u. u .count) tally-more)
 
-  not-full : full tally e ≡ false
-  unfolding full
-  not-full = by (full tally e)
-      (λ f. let b : begins tally e ≡ true = T-is (begins tally e) (and-left (begins tally e) (leb transactionLimit (tally .count)) (T-of f)) in
-      let h : transactionLimit ≤ tally .count = leb→le transactionLimit (tally .count) (and-right (begins tally e) (leb transactionLimit (tally .count)) (T-of f)) in
-      absurd (omega (arith, count-begun tally e b, few-more, at .holds .square)))
-      (λ f. f)
-
-  below-count : a < tallied tally e .count
+  pub below-count : a < tallied tally e .count
   below-count = subst (λ u. a < u .count) tally-more (labels-lt none-yet (done ++ (e ∷ [])) sane-none x (subst (λ l. Among x l) (sym labels-more) (among-end xs x)))
 
-  in-a : a < m
+  pub in-a : a < m
   in-a = omega (arith, below-count, few-more)
 
   fits : Orderly (eventsIn (xs ++ (x ∷ [])))
@@ -147,12 +113,16 @@ module _ (m : ℕ) (start : List ℕ) (done : List Event) (e : Event) (rest : Li
   unfolding edgesUpTo
   edges-are = ap (λ l. edges (labelled l)) prefix-is ∙ ap edges labels-more
 
+  -- the new sources answer for all
+  pub new-is : closingNew s work a e ≡ closing s work a e
+  new-is = closing-same xs x fits m s work (tally .count) (at .holds) in-a
+
   cyclic-is : closing s work a e ≡ cyclicUpTo es (suc (length done))
   unfolding cyclicUpTo
   cyclic-is = closing-right xs x fits m s work (tally .count) (at .holds) in-a ∙ ap cyclic (sym edges-are)
 
   -- the rows to look at are enough
-  abbrev n : ℕ
+  abbrev pub n : ℕ
   n = looked a (tally .count)
 
   in-n : n ≤ 512
@@ -167,14 +137,14 @@ module _ (m : ℕ) (start : List ℕ) (done : List Event) (e : Event) (rest : Li
       (λ q. looks-first xs x fits m s work (tally .count) (at .holds) in-a n (λ y i z. omega (arith, at .holds .few y i)))
       (λ ne. looks-all xs x fits m s work (tally .count) (at .holds) in-a n (omega (arith, ap (λ b. cond b 0 (tally .count)) (ne-eqb a (tally .count) ne))))
 
-  abbrev after : Taken
+  abbrev pub after : Taken
   after = taken s work n a e
 
   kept-after : Kept start (after .rows)
   kept-after = let k : Kept work (after .rows) = taken-kept xs x fits m s work (tally .count) (at .holds) in-a n in-n looks in
       kept-then start work (after .rows) (at .kept) (k .size) (k .rest)
 
-  transaction-is : transactionAt es (length done) ≡ a
+  pub transaction-is : transactionAt es (length done) ≡ a
   unfolding transactionAt labelledFrom
   transaction-is =
       ap (λ l. getD (map (λ y. y .transaction) l) (length done) 0) (labelled-append none-yet (done ++ (e ∷ [])) rest ∙ ap (λ l. l ++ labelledFrom (tallyFrom none-yet (done ++ (e ∷ []))) rest) labels-more ∙ append-snoc xs x later)
@@ -196,7 +166,7 @@ module _ (m : ℕ) (start : List ℕ) (done : List Event) (e : Event) (rest : Li
       sizes = length-map xs ∙ length-labels none-yet done
 
   -- it closes a cycle
-  found-hit : closing s work a e ≡ true → Found es start (searchedAs (suc (length done)) (after .rows))
+  pub found-hit : closing s work a e ≡ true → Found es start (suc (length done)) (after .rows)
   unfolding shortest
   found-hit c = record {
     first = sym (first-is (cyclicUpTo es) 0 1 (length es) (suc (length done)) (omega arith) (omega (arith, length-append (done ++ (e ∷ [])) rest, length-snoc done e)) (sym cyclic-is ∙ c)
@@ -206,11 +176,12 @@ module _ (m : ℕ) (start : List ℕ) (done : List Event) (e : Event) (rest : Li
         subst (λ j. has (after .rows) (transactionAt es j) b ≡ reaches (edgesUpTo es (suc j)) b (transactionAt es j)) same
         (subst (λ t. has (after .rows) t b ≡ reaches (edgesUpTo es (suc (length done))) b t) (sym transaction-is)
         (taken-row xs x fits m s work (tally .count) (at .holds) in-a n in-n looks b hb ∙ ap (λ g. reaches g b a) (sym edges-are)));
-    kept = kept-after;
+    size = kept-after .size;
+    rest = kept-after .rest;
   }
 
   -- it closes none
-  standing-on : closing s work a e ≡ false → Standing m es start (done ++ (e ∷ [])) (after .cells) (after .rows)
+  pub standing-on : closing s work a e ≡ false → Standing m es start (done ++ (e ∷ [])) (after .cells) (after .rows)
   standing-on c = record {
     holds = subst (λ u. Holds m (labelled (done ++ (e ∷ []))) (after .cells) (after .rows) (u .count)) (sym tally-more)
         (subst (λ l. Holds m l (after .cells) (after .rows) (tallied tally e .count)) (sym labels-more)
@@ -222,43 +193,13 @@ module _ (m : ℕ) (start : List ℕ) (done : List Event) (e : Event) (rest : Li
     kept = kept-after;
   }
 
-search-from : (m : ℕ) (start : List ℕ) (rest done : List Event) (s : Cells) (work : List ℕ) → Orderly (done ++ rest) → transactions (done ++ rest) ≤ m
-    → Standing m (done ++ rest) start done s work → Found (done ++ rest) start (searchedFrom (tallyFrom none-yet done) s work (length done) rest)
-unfolding searchedFrom
-search-from m start [] done s work ok few at =
-    subst (λ l. Found l start (searchedAs 0 work)) (sym (append-nil done)) (found-none m done start s work (subst (λ l. Standing m l start done s work) (append-nil done) at))
-search-from m start (e ∷ rest) done s work ok few at =
-    let q : done ++ (e ∷ []) ++ rest ≡ done ++ e ∷ rest = append-snoc done e rest in
-    let ok′ : Orderly (done ++ (e ∷ []) ++ rest) = subst (λ l. Orderly l) (sym q) ok in
-    let few′ : transactions (done ++ (e ∷ []) ++ rest) ≤ m = subst (λ l. transactions l ≤ m) (sym q) few in
-    let at′ : Standing m (done ++ (e ∷ []) ++ rest) start done s work = subst (λ l. Standing m l start done s work) (sym q) at in
-    let tally : Tally = tallyFrom none-yet done in
-    let after : Taken = taken s work (looked (belongs tally e) (tally .count)) (belongs tally e) e in
-    let open-ended : full tally e ≡ false = not-full m start done e rest s work ok′ few′ at′ in
-    subst (λ l. Found l start (searchedFrom tally s work (length done) (e ∷ rest))) q
-    (by (closing s work (belongs tally e) e)
-    (λ c. subst (λ r. Found (done ++ (e ∷ []) ++ rest) start r) (sym (searched-hit tally s work (length done) e rest open-ended c)) (found-hit m start done e rest s work ok′ few′ at′ c))
-    (λ c. subst (λ r. Found (done ++ (e ∷ []) ++ rest) start r)
-    (sym (searched-on tally s work (length done) e rest open-ended c
-    ∙ ap₂ (λ u k. searchedFrom u (after .cells) (after .rows) k rest) (sym (tally-more m start done e rest s work ok′ few′ at′)) (sym (length-snoc done e))))
-    (search-from m start rest (done ++ (e ∷ [])) (after .cells) (after .rows) ok′ few′ (standing-on m start done e rest s work ok′ few′ at′ c))))
-
--- The walk from the beginning, over m rows that are marked
-pub searched-right : (es : List Event) → Orderly es → (m : ℕ) → transactions es ≤ m → m ≤ 512 → (start : List ℕ) → 4096 ≤ length start → Found es start (searched es (begun m start))
-unfolding searched none-yet labelledFrom tallyFrom
-searched-right es ok m few square start long = search-from m start es [] idle (begun m start) ok few (record {
-  holds = begun-holds m start square long;
-  none = λ j lo hi. absurd (omega arith);
-  kept = record { size = length-begun m start long; rest = rest-begun m start long };
-})
-
--- and so what `finish` needs
-pub found-ready : (es : List Event) (start : List ℕ) (r : Searched) → Found es start r → ((i : ℕ) → getD (r .rows) i 0 < 2 ^ 64) → Ready es (r .prefix) start (r .rows)
-found-ready es start r f small = record {
+-- what `finish` and `put_in_order` need
+pub found-ready : (es : List Event) (start : List ℕ) (prefix : ℕ) (work : List ℕ) → Found es start prefix work → ((i : ℕ) → getD work i 0 < 2 ^ 64) → Ready es prefix start work
+found-ready es start prefix work f small = record {
   first = f .first;
   stands = f .stands;
   row = f .row;
   small = small;
-  size = f .kept .size;
-  rest = f .kept .rest;
+  size = f .size;
+  rest = f .rest;
 }

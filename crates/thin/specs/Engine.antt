@@ -1,16 +1,21 @@
 -- What the engine's private functions promise one another: the cells by kind number and target, and one held number at a time.
 -- A reader of the public promises need not read this.
-use Prim.Native.Nat.{ℕ, suc, pred, _+_, _*_}
+use Prim.Native.Nat.{ℕ, suc, pred, _+_, _*_, _<_}
 use mathlib.Core.Path.{_≡_}
-use mathlib.Core.Bool.{Bool, true, false, cond, not, _&&_, _||_}
+use mathlib.Core.Bool.{Bool, false, cond, not, _&&_, _||_}
 use mathlib.Core.List.{List, [], _∷_, map}
 use lib.Dec.{eqb, leb, ltb}
-use lib.ListN.{getD}
+use lib.ListN.{length, getD, drop}
 use Rattle.trace.specs.Lists.{from}
+use Rattle.trace.specs.Paths.{reaches}
 use Rattle.record.specs.declared.Event.{Event}
 use Rattle.rows.specs.Bits.{has, joined}
-use Rattle.graph.specs.Transactions.{Tally, none-yet, belongs, tallied, full}
-use Rattle.thin.specs.Cells.{Cells, idle, Key, readersOf, isOther, closing, Taken, taken}
+use Rattle.graph.specs.Transactions.{labelled, transactions}
+use Rattle.graph.specs.Edges.{edges}
+use Rattle.graph.specs.Violation.{edgesUpTo, shortest, transactionAt}
+use Rattle.graph.specs.Arranged.{workSize}
+use Rattle.graph.specs.Engine.{Stands}
+use Rattle.thin.specs.Cells.{Key, readersOf, isOther}
 
 -- the cells that an operation of kind k and target x asks, besides its own thread's
 unfoldable pub askedBy : ℕ → ℕ → List Key
@@ -76,27 +81,11 @@ pub record Joins (before : List ℕ) (a : ℕ) (cs : List ℕ) (r : ℕ) (after 
 unfoldable pub looked : ℕ → ℕ → ℕ
 looked a n = cond (eqb a n) 0 n
 
--- what the walk answers and leaves: how many records the shortest prefix with a cycle has, or 0; and the rows
-pub record Searched : Type 0 where
-  pub prefix : ℕ
-  pub rows : List ℕ
-
-abbrev pub searchedAs : ℕ → List ℕ → Searched
-searchedAs prefix rows = record { prefix = prefix; rows = rows }
-
--- k records are behind it: each record is taken in, up to the first that closes a cycle; a 513th transaction stops it
-unfoldable pub searchedFrom : Tally → Cells → List ℕ → ℕ → List Event → Searched
-searchedFrom tally s work k [] = searchedAs 0 work
-searchedFrom tally s work k (e ∷ es) =
-    let a : ℕ = belongs tally e in
-    let next : Taken = taken s work (looked a (tally .count)) a e in
-    elim (full tally e) [
-      | true ↦ searchedAs 0 work
-      | false ↦ elim (closing s work a e) [
-        | true ↦ searchedAs (suc k) (next .rows)
-        | false ↦ searchedFrom (tallied tally e) (next .cells) (next .rows) (suc k) es
-      ]
-    ]
-
-unfoldable pub searched : List Event → List ℕ → Searched
-searched es work = searchedFrom none-yet idle work 0 es
+-- What the search for the shortest prefix with a cycle answers and leaves: how many records it has, or 0; the rows of all transactions, unless there is
+-- one; in any case the row of the last record's transaction
+pub record Found (es : List Event) (before : List ℕ) (prefix : ℕ) (work : List ℕ) : Type 0 where
+  pub first : prefix ≡ shortest es
+  pub stands : prefix ≡ 0 → Stands (transactions es) work (edges (labelled es))
+  pub row : (k : ℕ) → prefix ≡ suc k → (b : ℕ) → b < 512 → has work (transactionAt es k) b ≡ reaches (edgesUpTo es (suc k)) b (transactionAt es k)
+  pub size : length work ≡ length before
+  pub rest : drop workSize work ≡ drop workSize before
