@@ -1,12 +1,12 @@
 -- Laws of what is found in a recording before it is judged: what the arrays hold at the end, and what a caller knows of them.
-use Prim.Native.Nat.{ℕ, zero, suc, _/_, _%_, _≤_}
+use Prim.Native.Nat.{ℕ, zero, suc, _+_, _/_, _%_, _≤_}
 use native.Mathlib.Omega.{arith}
 use mathlib.Core.Path.{_≡_, refl, sym, ap, ap₂, _∙_}
 use mathlib.Core.Logic.{_≢_}
 use mathlib.Core.List.{List, [], _∷_, _++_, map}
 use lib.Dec.{eqb, leb}
-use lib.ListN.{length, getD, take, drop, replicate, take-append-drop, length-map}
-use lib.Seq.{length-take-le, take-suc, take-at, take-all}
+use lib.ListN.{length, getD, take, drop, replicate, length-map}
+use lib.Seq.{take-suc, take-at, take-all}
 use borrow.Author.Tests.{eqb-true, leb-true, eq-eqb, le-leb}
 use Rattle.record.specs.declared.Event.{Event}
 use Rattle.record.specs.Faults.{check, firstFault}
@@ -14,26 +14,19 @@ use Rattle.record.specs.Record.{event}
 use Rattle.record.proofs.Laws.{Counted, none-first, first-of-both, second-of-both}
 use Rattle.trace.specs.Lists.{over}
 use Rattle.trace.proofs.Lists.{map-append}
-use Rattle.graph.specs.Transactions.{none-yet, Labelled, labelledFrom, labelled}
+use Rattle.graph.specs.Transactions.{none-yet, Labelled, labelledFrom, labelled, tallyFrom, transactions}
 use Rattle.graph.specs.Arranged.{workSize}
 use Rattle.graph.specs.Engine.{recordAt, held}
-use Rattle.graph.proofs.Held.{length-held, held-take, held-cons}
+use Rattle.graph.proofs.Held.{held-take, held-cons}
 use Rattle.graph.proofs.Numbers.{labelled-take}
 use Rattle.graph.proofs.Labels.{labelled-events}
-use Rattle.checker.specs.Refusals.{sizeChecks, Run, start, Fault, noFault, records, recordsOf, firstRefusal, events}
-use Rattle.checker.specs.Examined.{inputChecks, inputRefusal, sound, soundEvents, noEvent, Examination, examined}
-use Rattle.checker.proofs.Refusing.{Sized, sized}
-use Rattle.checker.proofs.Scanned.{restFrom, Under}
-
--- how many records a recording has
-pub records-size : (n : ℕ) (bs : List ℕ) → length (map event (records n bs)) ≡ n
-unfolding records
-records-size zero bs = refl
-records-size (suc n) bs = ap suc (records-size n (drop 8 bs))
-
-pub events-size : (input : List ℕ) → length (events input) ≡ length input / 8
-unfolding events
-events-size input = records-size (length input / 8) input
+use Rattle.checker.specs.declared.Refusal.{Refusal}
+use Rattle.checker.specs.declared.examining.Looked.{Looked}
+use Rattle.checker.specs.Refusals.{sizeChecks, Run, start, onwards, recordChecks, Fault, noFault, recordsOf, firstRefusal, events}
+use Rattle.checker.specs.Examined.{inputChecks, inputRefusal, sound, soundEvents, noEvent, Examination, examined, asFault}
+use Rattle.checker.specs.Seeing.{SawAll}
+use Rattle.checker.proofs.Refusing.{Sized, sized, refusal-on, refusal-at}
+use Rattle.checker.proofs.Scanned.{records-size, events-size, labelsOf, labels-take, Under}
 
 -- ---- Numbers 1 and 2
 
@@ -80,12 +73,12 @@ input-passed input h = rw (h, inputRefusal)
 
 -- ---- The records before the fault
 
-sound-at : (input : List ℕ) (n k : ℕ) → inputRefusal input ≡ record { number = n; place = k } → n ≢ 0 → sound input ≡ k
+pub sound-at : (input : List ℕ) (n k : ℕ) → inputRefusal input ≡ record { number = n; place = k } → n ≢ 0 → sound input ≡ k
 unfolding sound
 sound-at input zero k h some = absurd (some refl)
 sound-at input (suc n) k h some = rw (ap (λ f. f .number) h, sound) (ap (λ f. f .place) h)
 
-sound-all : (input : List ℕ) → inputRefusal input .number ≡ 0 → sound input ≡ length input / 8
+pub sound-all : (input : List ℕ) → inputRefusal input .number ≡ 0 → sound input ≡ length input / 8
 unfolding sound
 sound-all input h = rw (h, sound)
 
@@ -99,39 +92,16 @@ transactions-held (suc n) all labels h =
     ∙ ap (λ l. l ++ (getD labels n 0 ∷ [])) (transactions-held n all labels (omega arith))
     ∙ sym (take-suc labels n 0 h)
 
-module _ (input old : List ℕ) (r : Run) (all : List Event) (labels : List ℕ) (i : ℕ) (most : i ≤ length input / 8) (room : i ≤ length all) (room′ : i ≤ length labels)
-    (u : Under input old r all labels i) where
-  front : take i (events input) ≡ take i all
-  front = ap (take i) (u .events-are) ∙ take-at (take i all) (map event (restFrom input i)) i (length-take-le i all room)
-
-  labels-front : labelled (take i (events input)) ≡ held i all labels
-  labels-front =
-      let rest = labelledFrom (r .tally) (map event (restFrom input i)) in
-      labelled-take none-yet i (events input) ∙ ap (take i) (u .labelled-are) ∙ take-at (held i all labels) rest i (length-held i all labels)
-
-  all-is : all ≡ over (take i (events input)) (replicate 1024 noEvent)
-  unfolding over
-  all-is =
-      let n : length (take i (events input)) ≡ i = length-take-le i (events input) (omega (arith, events-size input)) in
-      sym (take-append-drop i all) ∙ ap₂ _++_ (sym front) (u .past-events ∙ ap (λ k. drop k (replicate 1024 noEvent)) (sym n))
-
-  labels-are : labels ≡ over (map (λ x. x .transaction) (labelled (take i (events input)))) old
-  unfolding over
-  labels-are =
-      let is : map (λ x. x .transaction) (labelled (take i (events input))) ≡ take i labels = ap (map (λ x. x .transaction)) labels-front ∙ transactions-held i all labels room′ in
-      let n : length (map (λ (x : Labelled). x .transaction) (labelled (take i (events input)))) ≡ i = ap length is ∙ length-take-le i labels room′ in
-      sym (take-append-drop i labels) ∙ ap₂ _++_ (sym is) (u .past-labels ∙ ap (λ k. drop k old) (sym n))
-
-  examined-as : (f : Fault) → inputRefusal input ≡ f → sound input ≡ i → _≡_ {A = Examination} (record { refusal = f; all = all; labels = labels }) (examined input old)
-  unfolding examined soundEvents
-  examined-as f h s =
-      ap₂ (λ (x : Fault) (y : List Event). record { refusal = x; all = y; labels = labels }) (sym h) all-is
-      ∙ ap (λ l. record { refusal = inputRefusal input; all = over (take i (events input)) (replicate 1024 noEvent); labels = l }) labels-are
-      ∙ ap (λ k. record {
-        refusal = inputRefusal input;
-        all = over (take k (events input)) (replicate 1024 noEvent);
-        labels = over (map (λ x. x .transaction) (labelled (take k (events input)))) old;
-      }) (sym s)
+module _ (input old : List ℕ) (r : Run) (labels : List ℕ) (i : ℕ) (u : Under input old r labels i) where
+  seen-to : (f : Refusal) (n : ℕ) → asFault f ≡ inputRefusal input → n ≡ r .tally .count → sound input ≡ i → SawAll input old (record { refusal = f; transactions = n }) labels
+  unfolding soundEvents transactions
+  seen-to f n h q s =
+      let es : List Event = events input in
+      record {
+        refusal-is = h;
+        labels-are = u .labels-are ∙ ap (λ l. over l old) (labels-take i es) ∙ ap (λ k. over (labelsOf (take k es)) old) (sym s);
+        count-is = q ∙ ap (λ t. t .count) (u .tally-is) ∙ ap (λ k. tallyFrom none-yet (take k es) .count) (sym s);
+      }
 
 -- ---- The three ways to the end
 
@@ -150,20 +120,49 @@ examined-unfit input labels (suc n) h some all is =
     }) (sym (sound-at input (suc n) 0 r some))
 
 -- a fault at record i
-pub examined-stop : (input old : List ℕ) (r : Run) (all : List Event) (labels : List ℕ) (i n : ℕ) → firstFault (inputChecks input) ≡ 0
-    → i ≤ length input / 8 → i ≤ length all → i ≤ length labels → Under input old r all labels i → (firstRefusal start 0 (recordsOf input) ≡ record { number = n; place = i }) × (n ≢ 0)
-    → _≡_ {A = Examination} (record { refusal = record { number = n; place = i }; all = all; labels = labels }) (examined input old)
-examined-stop input old r all labels i n p most room room′ u f =
+pub saw-stop : (input old : List ℕ) (r : Run) (labels : List ℕ) (i n count : ℕ) → firstFault (inputChecks input) ≡ 0 → Under input old r labels i
+    → (firstRefusal start 0 (recordsOf input) ≡ record { number = n; place = i }) × (n ≢ 0) → count ≡ r .tally .count
+    → SawAll input old (record { refusal = record { number = n; «record» = i }; transactions = count }) labels
+saw-stop input old r labels i n count p u f q =
     let h = input-passed input p ∙ f .0 in
-    examined-as input old r all labels i most room room′ u (record { number = n; place = i }) h (sound-at input n i h (f .1))
+    seen-to input old r labels i u (record { number = n; «record» = i }) count (sym h) q (sound-at input n i h (f .1))
 
 -- no fault
-pub examined-end : (input old : List ℕ) (r : Run) (all : List Event) (labels : List ℕ) (i : ℕ) → firstFault (inputChecks input) ≡ 0
-    → i ≡ length input / 8 → i ≤ length all → i ≤ length labels → Under input old r all labels i → firstRefusal start 0 (recordsOf input) ≡ noFault
-    → _≡_ {A = Examination} (record { refusal = noFault; all = all; labels = labels }) (examined input old)
-examined-end input old r all labels i p e room room′ u f =
+pub saw-end : (input old : List ℕ) (r : Run) (labels : List ℕ) (i count : ℕ) → firstFault (inputChecks input) ≡ 0 → i ≡ length input / 8 → Under input old r labels i
+    → firstRefusal start 0 (recordsOf input) ≡ noFault → count ≡ r .tally .count
+    → SawAll input old (record { refusal = record { number = 0; «record» = 0 }; transactions = count }) labels
+saw-end input old r labels i count p e u f q =
     let h = input-passed input p ∙ f in
-    examined-as input old r all labels i (omega (arith, e)) room room′ u noFault h (sound-all input (ap (λ x. x .number) h) ∙ sym e)
+    seen-to input old r labels i u (record { number = 0; «record» = 0 }) count (sym h) q (sound-all input (ap (λ x. x .number) h) ∙ sym e)
+
+-- both with their events
+pub examined-all : (input old : List ℕ) (l : Looked) (labels : List ℕ) (all : List Event) (k : ℕ) → SawAll input old l labels → k ≡ sound input
+    → all ≡ over (take k (events input)) (replicate 1024 noEvent)
+    → _≡_ {A = Examination} (record { refusal = asFault (l .refusal); all = all; labels = labels }) (examined input old)
+unfolding examined soundEvents
+examined-all input old l labels all k s q p =
+    ap₂ (λ (f : Fault) (es : List Event). record { refusal = f; all = es; labels = labels }) (s .refusal-is)
+    (p ∙ ap (λ n. over (take n (events input)) (replicate 1024 noEvent)) q)
+    ∙ ap (λ m. record { refusal = inputRefusal input; all = over (soundEvents input) (replicate 1024 noEvent); labels = m }) (s .labels-are)
+
+-- the fault stands at one of the records
+refusal-most : (r : Run) (k : ℕ) (rs : List (List ℕ)) → firstRefusal r k rs .place ≤ k + length rs
+unfolding firstRefusal
+refusal-most r k [] = omega arith
+refusal-most r k (bs ∷ rs) = go (firstFault (recordChecks r bs)) refl (refusal-most (onwards r (event bs)) (suc k) rs)
+  where
+    go : (n : ℕ) → firstFault (recordChecks r bs) ≡ n → firstRefusal (onwards r (event bs)) (suc k) rs .place ≤ suc k + length rs → firstRefusal r k (bs ∷ rs) .place ≤ k + suc (length rs)
+    go zero q again = omega (arith, ap (λ f. f .place) (refusal-on r k bs rs q), again)
+    go (suc n) q again = omega (arith, ap (λ f. f .place) (refusal-at r k bs rs n q))
+
+pub sound-most : (input : List ℕ) → firstFault (inputChecks input) ≡ 0 → sound input ≤ length input / 8
+sound-most input p = go (inputRefusal input .number) refl
+  where
+    go : (n : ℕ) → inputRefusal input .number ≡ n → sound input ≤ length input / 8
+    go zero q = omega (arith, sound-all input q)
+    go (suc n) q =
+        let at : sound input ≡ inputRefusal input .place = sound-at input (suc n) (inputRefusal input .place) (ap (λ m. record { number = m; place = inputRefusal input .place }) q) (λ z. absurd (omega arith)) in
+        omega (arith, at, ap (λ f. f .place) (input-passed input p), refusal-most start 0 (recordsOf input), records-size (length input / 8) input)
 
 -- ---- What a caller knows of a recording without a fault
 

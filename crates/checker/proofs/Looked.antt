@@ -1,7 +1,7 @@
 -- Laws of looking at one record: which check is the first to fail, and what is taken in where none does.
-use Prim.Native.Nat.{ℕ, zero, suc, _≤_}
+use Prim.Native.Nat.{ℕ, zero, suc}
 use native.Mathlib.Omega.{arith}
-use mathlib.Core.Path.{_≡_, refl, sym, ap, ap₂, _∙_, subst}
+use mathlib.Core.Path.{_≡_, refl, sym, ap, ap₂, _∙_}
 use mathlib.Core.Logic.{_≢_}
 use mathlib.Core.Bool.{Bool, true, false, not, cond}
 use mathlib.Core.List.{List, [], _∷_, _++_, append-assoc}
@@ -10,7 +10,6 @@ use Rattle.record.specs.declared.Op.{Op}
 use Rattle.record.specs.declared.Op.the-variants.{Read, Write, Acquire, Release, Prewait, Postwait, Notify, Fork, Join, Yield}
 use Rattle.record.specs.declared.Event.{Event}
 use Rattle.record.specs.declared.Fault.{Fault}
-use Rattle.record.specs.declared.Decoded.{Decoded}
 use Rattle.record.specs.declared.Decoded.the-variants.{Good, Refused}
 use Rattle.record.specs.Faults.{Check, check, firstFault}
 use Rattle.record.specs.Record as Record
@@ -19,10 +18,8 @@ use Rattle.record.proofs.Laws.{Counted, first-of-both, second-of-both, checks-c
 use Rattle.replay.specs.declared.State.{State}
 use Rattle.replay.specs.Machine as Machine
 use Rattle.replay.specs.Machine.{finds, faultOf, stepped, next}
-use Rattle.graph.specs.declared.Numbered.{Numbered}
 use Rattle.graph.specs.declared.Numbered.the-variants.{Of, Full}
 use Rattle.graph.specs.Transactions.{Tally, full, belongs, numbered, counted, tallied}
-use Rattle.checker.specs.declared.examining.Seen.{Seen}
 use Rattle.checker.specs.declared.examining.Seen.the-variants.{Sound, Faulty}
 use Rattle.checker.specs.Refusals.{Run, onwards, recordChecks}
 use Rattle.checker.specs.Seeing.{seen, Saw}
@@ -107,14 +104,14 @@ seen-faulty : (r : Run) (bs : List ℕ) (n : ℕ) → firstFault (recordChecks r
 unfolding seen
 seen-faulty r bs n h = rw (h, seen)
 
-seen-sound : (r : Run) (bs : List ℕ) → firstFault (recordChecks r bs) ≡ 0 → seen r bs ≡ Sound (event bs) (belongs (r .tally) (event bs))
+seen-sound : (r : Run) (bs : List ℕ) → firstFault (recordChecks r bs) ≡ 0 → seen r bs ≡ Sound (belongs (r .tally) (event bs))
 unfolding seen
 seen-sound r bs h = rw (h, seen)
 
--- a fault found is all that is said
-saw-faulty : (r : Run) (bs : List ℕ) (after : Run) (n : ℕ) → firstFault (recordChecks r bs) ≡ n → n ≢ 0 → Saw r bs after (Faulty n)
-saw-faulty r bs after zero h q = absurd (q refl)
-saw-faulty r bs after (suc n) h q = record { answer = sym (seen-faulty r bs n h); onward = λ z. absurd (omega (arith, h, z)) }
+-- a fault found, and nothing counted, is all that is said
+saw-faulty : (r : Run) (bs : List ℕ) (after : Run) (n : ℕ) → firstFault (recordChecks r bs) ≡ n → n ≢ 0 → after .tally ≡ r .tally → Saw r bs after (Faulty n)
+saw-faulty r bs after zero h q same = absurd (q refl)
+saw-faulty r bs after (suc n) h q same = record { answer = sym (seen-faulty r bs n h); onward = λ z. absurd (omega (arith, h, z)); uncounted = λ some. same }
 
 -- whether a 513th transaction would begin, as counting says it
 pub counted-full : (s : Tally) (e : Event) → numbered s e ≡ Full → full s e ≡ true
@@ -147,28 +144,34 @@ pub counted-tallied : (s : Tally) (e : Event) → full s e ≡ false → counted
 unfolding counted
 counted-tallied s e h = ap (λ t. cond t s (tallied s e)) h
 
+counted-none : (s : Tally) (e : Event) → full s e ≡ true → counted s e ≡ s
+unfolding counted
+counted-none s e h = ap (λ t. cond t s (tallied s e)) h
+
 -- ---- The four ways through
 
 module _ (r : Run) (bs : List ℕ) (size : length bs ≡ 8) where
-  pub saw-form : (after : Run) (f : Fault) → decoded bs ≡ Refused f → Saw r bs after (Faulty (f .number))
-  saw-form after f h =
+  pub saw-form : (after : Run) (f : Fault) → decoded bs ≡ Refused f → after .tally ≡ r .tally → Saw r bs after (Faulty (f .number))
+  saw-form after f h same =
       let q = refused-decoded bs f size h in
       let some : f .number ≢ 0 = λ z. absurd (omega (arith, q .1, z)) in
-      saw-faulty r bs after (f .number) (form-fault r bs (f .number) (q .0) some) some
+      saw-faulty r bs after (f .number) (form-fault r bs (f .number) (q .0) some) some same
 
-  pub saw-event : (after : Run) (e : Event) (n : ℕ) → decoded bs ≡ Good e → n ≡ faultOf (r .state) e → n ≢ 0 → Saw r bs after (Faulty n)
-  saw-event after e n h q some =
+  pub saw-event : (after : Run) (e : Event) (n : ℕ) → decoded bs ≡ Good e → n ≡ faultOf (r .state) e → n ≢ 0 → after .tally ≡ r .tally → Saw r bs after (Faulty n)
+  saw-event after e n h q some same =
       let g : IsEvent bs e = good-decoded bs e h in
-      saw-faulty r bs after n (event-fault r bs n (g .faultless) (ap (faultOf (r .state)) (g .same) ∙ sym q) some) some
+      saw-faulty r bs after n (event-fault r bs n (g .faultless) (ap (faultOf (r .state)) (g .same) ∙ sym q) some) some same
 
-  pub saw-full : (after : Run) (e : Event) → decoded bs ≡ Good e → faultOf (r .state) e ≡ 0 → numbered (r .tally) e ≡ Full → Saw r bs after (Faulty 13)
-  saw-full after e h q p =
+  pub saw-full : (after : Run) (e : Event) → decoded bs ≡ Good e → faultOf (r .state) e ≡ 0 → numbered (r .tally) e ≡ Full → after .tally ≡ counted (r .tally) e
+      → Saw r bs after (Faulty 13)
+  saw-full after e h q p k =
       let g : IsEvent bs e = good-decoded bs e h in
-      let f : full (r .tally) (event bs) ≡ true = ap (full (r .tally)) (g .same) ∙ counted-full (r .tally) e p in
-      saw-faulty r bs after 13 (full-fault r bs (g .faultless) (ap (faultOf (r .state)) (g .same) ∙ q) f) (λ z. absurd (omega arith))
+      let fe : full (r .tally) e ≡ true = counted-full (r .tally) e p in
+      let f : full (r .tally) (event bs) ≡ true = ap (full (r .tally)) (g .same) ∙ fe in
+      saw-faulty r bs after 13 (full-fault r bs (g .faultless) (ap (faultOf (r .state)) (g .same) ∙ q) f) (λ z. absurd (omega arith)) (k ∙ counted-none (r .tally) e fe)
 
   pub saw-sound : (s : State) (c : Tally) (e : Event) (a : ℕ) → decoded bs ≡ Good e → faultOf (r .state) e ≡ 0 → s ≡ stepped (r .state) e
-      → numbered (r .tally) e ≡ Of a → c ≡ counted (r .tally) e → Saw r bs (record { state = s; tally = c }) (Sound e a)
+      → numbered (r .tally) e ≡ Of a → c ≡ counted (r .tally) e → Saw r bs (record { state = s; tally = c }) (Sound a)
   saw-sound s c e a h q p m k =
       let g : IsEvent bs e = good-decoded bs e h in
       let o : (full (r .tally) e ≡ false) × (belongs (r .tally) e ≡ a) = counted-of (r .tally) e a m in
@@ -177,43 +180,44 @@ module _ (r : Run) (bs : List ℕ) (size : length bs ≡ 8) where
       let now : _≡_ {A = Run} (record { state = s; tally = c }) (onwards r e) =
       ap₂ (λ (x : State) (y : Tally). record { state = x; tally = y }) (p ∙ stepped-next (r .state) e q) (k ∙ counted-tallied (r .tally) e (o .0)) in
       record {
-        answer = sym (seen-sound r bs n ∙ ap₂ Sound (g .same) (ap (belongs (r .tally)) (g .same) ∙ o .1));
+        answer = sym (seen-sound r bs n ∙ ap Sound (ap (belongs (r .tally)) (g .same) ∙ o .1));
         onward = λ z. now ∙ ap (onwards r) (sym (g .same));
+        uncounted = λ some. absurd (some n);
       }
 
 -- ---- What the answer says
 
--- a record that is sound is taken in, and its event and transaction are its own
-pub record Taken (r : Run) (bs : List ℕ) (after : Run) (e : Event) (a : ℕ) : Type 0 where
+-- a record that is sound is taken in, and the transaction is its own
+pub record Taken (r : Run) (bs : List ℕ) (after : Run) (a : ℕ) : Type 0 where
   pub faultless : firstFault (recordChecks r bs) ≡ 0
-  pub event-is : e ≡ event bs
   pub transaction-is : a ≡ belongs (r .tally) (event bs)
   pub after-is : after ≡ onwards r (event bs)
 
-pub taken : (r : Run) (bs : List ℕ) (after : Run) (e : Event) (a : ℕ) → Saw r bs after (Sound e a) → Taken r bs after e a
-taken r bs after e a s = go (firstFault (recordChecks r bs)) refl
+pub taken : (r : Run) (bs : List ℕ) (after : Run) (a : ℕ) → Saw r bs after (Sound a) → Taken r bs after a
+taken r bs after a s = go (firstFault (recordChecks r bs)) refl
   where
-    go : (n : ℕ) → firstFault (recordChecks r bs) ≡ n → Taken r bs after e a
+    go : (n : ℕ) → firstFault (recordChecks r bs) ≡ n → Taken r bs after a
     go zero q =
-        let x : Sound e a ≡ Sound (event bs) (belongs (r .tally) (event bs)) = s .answer ∙ seen-sound r bs q in
-        record { faultless = q; event-is = cc x; transaction-is = cc x; after-is = s .onward q }
+        let x : Sound a ≡ Sound (belongs (r .tally) (event bs)) = s .answer ∙ seen-sound r bs q in
+        record { faultless = q; transaction-is = cc x; after-is = s .onward q }
     go (suc n) q =
-        let x : Sound e a ≡ Faulty (suc n) = s .answer ∙ seen-faulty r bs n q in
+        let x : Sound a ≡ Faulty (suc n) = s .answer ∙ seen-faulty r bs n q in
         let z : _≡_ {A = ℕ} 0 1 = cc x in absurd (omega arith)
 
--- a faulty record's number is that of its first fault
-pub record Stopped (r : Run) (bs : List ℕ) (n : ℕ) : Type 0 where
+-- a faulty record's number is that of its first fault, and nothing was counted
+pub record Stopped (r : Run) (bs : List ℕ) (after : Run) (n : ℕ) : Type 0 where
   pub number : ℕ
   pub number-is : n ≡ suc number
   pub fault-is : firstFault (recordChecks r bs) ≡ suc number
+  pub uncounted : after .tally ≡ r .tally
 
-pub stopped : (r : Run) (bs : List ℕ) (after : Run) (n : ℕ) → Saw r bs after (Faulty n) → Stopped r bs n
+pub stopped : (r : Run) (bs : List ℕ) (after : Run) (n : ℕ) → Saw r bs after (Faulty n) → Stopped r bs after n
 stopped r bs after n s = go (firstFault (recordChecks r bs)) refl
   where
-    go : (m : ℕ) → firstFault (recordChecks r bs) ≡ m → Stopped r bs n
+    go : (m : ℕ) → firstFault (recordChecks r bs) ≡ m → Stopped r bs after n
     go zero q =
-        let x : Faulty n ≡ Sound (event bs) (belongs (r .tally) (event bs)) = s .answer ∙ seen-sound r bs q in
+        let x : Faulty n ≡ Sound (belongs (r .tally) (event bs)) = s .answer ∙ seen-sound r bs q in
         let z : _≡_ {A = ℕ} 0 1 = cc x in absurd (omega arith)
     go (suc m) q =
         let x : Faulty n ≡ Faulty (suc m) = s .answer ∙ seen-faulty r bs m q in
-        record { number = m; number-is = cc x; fault-is = q }
+        record { number = m; number-is = cc x; fault-is = q; uncounted = s .uncounted (λ z. absurd (omega (arith, q, z))) }

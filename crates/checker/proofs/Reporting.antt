@@ -35,7 +35,8 @@ use Rattle.checker.proofs.Refusing.{Sized, sized, size-passed, refusal-
 use Rattle.checker.proofs.Looked.{parts-passed}
 use Rattle.checker.proofs.Written.{over-front}
 use Rattle.checker.proofs.Ending.{named-serial, named-cycle, lines-named, labels-few}
-use Rattle.checker.proofs.Finding.{events-size, input-passed, input-sized, Found, found-refused}
+use Rattle.checker.proofs.Scanned.{events-size}
+use Rattle.checker.proofs.Finding.{input-passed, input-sized, Found, found-refused}
 use Rattle.checker.proofs.Finding.{found as found-in}
 
 -- ---- A recording that is refused, and one that isn't

@@ -6,7 +6,7 @@ use native.Mathlib.Numerals.{add-one}
 use mathlib.Core.Path.{_≡_, refl, sym, ap, ap₂, _∙_, subst}
 use mathlib.Core.List.{List, [], _∷_, _++_, append-assoc, append-nil}
 use lib.ListN.{length, getD, set, take, drop, length-append, length-drop, take-append-drop, drop-of-length-le}
-use lib.Seq.{set-split, take-all, take-append-seam, drop-drop, drop-cons, length-take-le, take-at, drop-append-add, sets-eq}
+use lib.Seq.{set-split, take-all, take-append-seam, drop-drop, drop-cons, length-take-le, take-at, drop-append-add, sets-eq, paste, paste-suc}
 use borrow.Rule.Slice.PartMut.{putMid}
 use Rattle.record.specs.declared.Event.{Event}
 use Rattle.record.specs.Record.{encoded, encodedOver, encodedSize}
@@ -64,6 +64,17 @@ written-more l n new more h =
 pub over-front : (new old : List ℕ) → take (length new) (over new old) ≡ new
 unfolding over
 over-front new old = take-append-seam new (drop (length new) old)
+
+-- a list copied over another, one entry more
+over-paste : {A : Type 0} (s old : List A) (j : ℕ) → j ≤ length s → over (take j s) old ≡ paste old 0 s j
+unfolding over
+over-paste s old j h = ap (λ k. take j s ++ drop k old) (length-take-le j s h ∙ sym (zero-add j))
+
+pub over-next : {A : Type 0} (s old : List A) (j : ℕ) (d : A) → j < length s → j < length old → set (over (take j s) old) j (getD s j d) ≡ over (take (suc j) s) old
+over-next {A = A} s old j d h k =
+    ap₂ (λ (l : List A) (i : ℕ). set l i (getD s j d)) (over-paste s old j (omega arith)) (sym (zero-add j))
+    ∙ paste-suc old 0 s j d (omega arith) h
+    ∙ sym (over-paste s old (suc j) h)
 
 -- Writing under way: of the whole, to be written from place n of out₀ on, the rest is still to be written, from place end of out on
 pub record Left (out₀ : List ℕ) (n : ℕ) (whole : List ℕ) (out : List ℕ) (end : ℕ) (rest : List ℕ) : Type 0 where

@@ -1,13 +1,13 @@
 -- What the checker's private functions promise one another about what they write.
 -- A reader of the public promise need not read this.
-use Prim.Native.Nat.{ℕ, zero, suc, _+_, _-_, _<_}
+use Prim.Native.Nat.{ℕ, zero, suc, _+_, _-_, _*_, _<_}
 use mathlib.Core.Path.{_≡_}
 use mathlib.Core.Bool.{true, false}
 use mathlib.Core.List.{List, [], _∷_, _++_}
 use lib.Dec.{eqb, ltb}
 use lib.ListN.{length, getD, take, drop}
 use Rattle.record.specs.declared.Event.{Event}
-use Rattle.record.specs.Record.{encoded}
+use Rattle.record.specs.Record.{recordSize, encoded}
 use Rattle.trace.specs.Lists.{each, keep, firstOf, from}
 use Rattle.graph.specs.Engine.{pastEnd, held}
 use Rattle.graph.specs.Serial.{eventsOf, threadOf}
@@ -26,6 +26,10 @@ unfoldable pub lineOf : ℕ → List Event → List ℕ → ℕ → List ℕ
 lineOf n all labels a = a ∷ threadOf (held n all labels) a ∷ firstRecord 0 (held n all labels) a ∷ []
 
 -- ---- The records by number, linked
+
+-- the bytes of record i of a recording
+abbrev pub recordIn : List ℕ → ℕ → List ℕ
+recordIn input i = take recordSize (drop (recordSize * i) input)
 
 -- the bytes of record i
 abbrev pub bytesAt : List Event → ℕ → List ℕ

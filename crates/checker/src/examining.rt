@@ -1,20 +1,29 @@
-// The pass that only reads: whether the recording is refused, and if not, its events and their transactions.
-use crate::Examined;
+// The pass that only reads: whether the recording is refused, and up to there its transactions and, where they are asked for, its events.
 use crate::Refusal;
 use graph::Numbered;
 use record::Decoded;
 use record::Event;
 use record::Op;
 ghost use mathlib.Core.Path.{_≡_};
-ghost use lib.ListN.{length, replicate};
+ghost use Prim.Native.Nat.{_/_, _≤_};
+ghost use lib.ListN.{length, take, replicate};
 ghost use Rattle.record.specs.Faults.{firstFault};
-ghost use Rattle.checker.specs.Seeing.{runOf, Saw};
-ghost use Rattle.checker.specs.Examined.{inputChecks, noEvent, Examination, examined, asFault};
+ghost use Rattle.trace.specs.Lists.{over};
+ghost use Rattle.checker.specs.Refusals.{events};
+ghost use Rattle.checker.specs.Seeing.{runOf, Saw, SawAll};
+ghost use Rattle.checker.specs.Examined as Examined;
+ghost use Rattle.checker.specs.Examined.{inputChecks, inputRefusal, noEvent, asFault};
 
-// A record, seen after those before it: its event and its transaction, or its lowest number.
+// A record, seen after those before it: its transaction, or its lowest number.
 pub enum Seen {
-    Sound { event: Event, transaction: u16 },
+    Sound(u16),
     Faulty(u8),
+}
+
+// What is found in all records, up to the first fault: that fault, where its number isn't 0, and how many transactions begin before it.
+pub struct Looked {
+    pub refusal: Refusal,
+    pub transactions: u16,
 }
 
 // Looks at one record and takes it in.
@@ -42,7 +51,7 @@ pub fn see<'a>(
                 return Seen::Faulty(number);
             }
             match graph::number(&mut *current, &mut *count, event) {
-                Numbered::Of(transaction) => Seen::Sound { event, transaction },
+                Numbered::Of(transaction) => Seen::Sound(transaction),
                 Numbered::Full => Seen::Faulty(13),
             }
         }
@@ -60,11 +69,35 @@ pub fn no_events() -> [Event; 1024]
     [none; 1024]
 }
 
+// The events of the first count records.
+pub fn events_of(input: &[u8], count: usize) -> [Event; 1024]
+    requires { ⌜ (count ≤ length (now input) / 8) × (count ≤ 1024) ⌝ }
+    ensures { λ r. ⌜ r ≡ over (take count (events (now (input .entry)))) (replicate 1024 noEvent) ⌝ }
+{
+    let mut all = no_events();
+    let mut k = 0;
+    while k < count {
+        all[k] = record::event_of(&input[8 * k..8 * k + 8]);
+        k += 1;
+    }
+    all
+}
+
+// How many records stand before the fault that was found: all where there is none.
+pub fn sound(input: &[u8], refusal: Refusal) -> usize
+    requires { ⌜ asFault refusal ≡ inputRefusal (now input) ⌝ }
+    ensures { λ r. ⌜ r ≡ Examined.sound (now (input .entry)) ⌝ }
+{
+    if refusal.number != 0 {
+        return refusal.record;
+    }
+    input.len() / 8
+}
+
 // Looks at all records, up to the first with a fault. `labels` then has the transaction of each.
-pub fn look_through(input: &[u8], labels: &mut [u16]) -> Examined
+pub fn look_through(input: &[u8], labels: &mut [u16]) -> Looked
     requires { ⌜ (firstFault (inputChecks (now input)) ≡ 0) × (length (now labels) ≡ 1024) ⌝ }
-    ensures { λ r. ⌜ _≡_ {A = Examination} (record { refusal = asFault (r .refusal); all = r .all; labels = now (labels .exit) })
-        (examined (now (input .entry)) (now (labels .entry))) ⌝ }
+    ensures { λ r. ⌜ SawAll (now (input .entry)) (now (labels .entry)) r (now (labels .exit)) ⌝ }
 {
     let state = replay::fresh();
     let mut values = state.values;
@@ -72,8 +105,7 @@ pub fn look_through(input: &[u8], labels: &mut [u16]) -> Examined
     let mut lives = state.lives;
     let mut waits = state.waits;
     let mut current = [0u16; 16];
-    let mut count = 0u16;
-    let mut all = no_events();
+    let mut transactions = 0u16;
     let records = input.len() / 8;
     let mut i = 0;
     while i < records {
@@ -85,15 +117,17 @@ pub fn look_through(input: &[u8], labels: &mut [u16]) -> Examined
             &mut lives,
             &mut waits,
             &mut current,
-            &mut count,
+            &mut transactions,
         ) {
-            Seen::Sound { event, transaction } => {
-                all[i] = event;
+            Seen::Sound(transaction) => {
                 labels[i] = transaction;
             }
             Seen::Faulty(number) => {
                 let refusal = Refusal { number, record: i };
-                return Examined { all, refusal };
+                return Looked {
+                    refusal,
+                    transactions,
+                };
             }
         }
         i += 1;
@@ -102,5 +136,8 @@ pub fn look_through(input: &[u8], labels: &mut [u16]) -> Examined
         number: 0,
         record: 0,
     };
-    Examined { all, refusal }
+    Looked {
+        refusal,
+        transactions,
+    }
 }

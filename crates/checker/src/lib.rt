@@ -67,7 +67,10 @@ pub fn examine(input: &[u8], labels: &mut [u16; 1024]) -> Examined
         let refusal = Refusal { number, record: 0 };
         return Examined { all, refusal };
     }
-    examining::look_through(input, labels)
+    let looked = examining::look_through(input, labels);
+    let refusal = looked.refusal;
+    let all = examining::events_of(input, examining::sound(input, refusal));
+    Examined { all, refusal }
 }
 
 // Numbers 1 to 4, tried in that order; 0 where none is given.

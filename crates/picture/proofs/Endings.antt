@@ -28,7 +28,8 @@ use Rattle.checker.specs.Examined.{inputChecks, sound, soundEvents, Examination
 use Rattle.checker.specs.Writing.{writtenAt}
 use Rattle.checker.proofs.Written.{written-start}
 use Rattle.checker.proofs.Reporting.{transactions-few}
-use Rattle.checker.proofs.Finding.{events-size, Found, found, found-refused, input-passed, inputs-counted, transactions-held}
+use Rattle.checker.proofs.Scanned.{events-size}
+use Rattle.checker.proofs.Finding.{Found, found, found-refused, input-passed, inputs-counted, transactions-held}
 use Rattle.picture.specs.declared.Drawn.{Drawn}
 use Rattle.picture.specs.declared.Drawn.the-variants.{Refused}
 use Rattle.picture.specs.Picture.{drawing, picture}

@@ -26,7 +26,8 @@ use Rattle.checker.specs.Examined.{inputRefusal, Examination, examined}
 use Rattle.checker.specs.Demand3.{numbersIn}
 use Rattle.checker.proofs.Refusing.{sized, sizes-passed, size-passed}
 use Rattle.checker.proofs.Reporting.{transactions-few}
-use Rattle.checker.proofs.Finding.{events-size, input-sized, input-passed, found, found-refused, found-prefix}
+use Rattle.checker.proofs.Scanned.{events-size}
+use Rattle.checker.proofs.Finding.{input-sized, input-passed, found, found-refused, found-prefix}
 use Rattle.checker.proofs.Written.{length-each}
 use Rattle.checker.proofs.Demand3.{is-cooperable, is-violation, numbers-are, refused-keeps}
 use Rattle.reasons.specs.declared.Cause.{Cause}

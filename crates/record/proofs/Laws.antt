@@ -105,9 +105,6 @@ decoded-number bs (suc n) h nonzero = decoded-failed bs n h
 size-passed : (bs : List ℕ) → length bs ≡ 8 → firstFault (sizeCheck bs ∷ checks bs) ≡ firstFault (checks bs)
 size-passed bs l = ap (λ t. firstFault (check 1 0 t ∷ checks bs)) (eq-eqb (length bs) 8 l) ∙ first-passed 1 0 (checks bs)
 
-pub passed-size : (bs : List ℕ) → firstFault (sizeCheck bs ∷ checks bs) ≡ 0 → length bs ≡ 8
-passed-size bs h = eqb-true (length bs) 8 (none-first 1 0 (eqb (length bs) 8) (checks bs) (omega arith) h .0)
-
 -- of 8 bytes: by the first fault of the bytes
 pub decoded-good : (bs : List ℕ) → length bs ≡ 8 → firstFault (checks bs) ≡ 0 → decoded bs ≡ Good (event bs)
 decoded-good bs l h = decoded-passed bs (size-passed bs l ∙ h)

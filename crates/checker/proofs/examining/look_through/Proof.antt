@@ -1,4 +1,4 @@
--- `checker::examining::look_through` meets its contract: after i turns, what the first i records have led to is in the arrays.
+-- `checker::examining::look_through` meets its contract: after i turns, the first i records have led to what the arrays hold.
 use Prim.Native.Nat.{ℕ, _-_, _/_, _≤_}
 use native.Mathlib.Omega.{arith}
 use mathlib.Core.Path.{_≡_, refl, ap, _∙_, subst}
@@ -10,16 +10,16 @@ use Rattle.checker.specs.Seeing.{runOf, Saw}
 use Rattle.checker.specs.Refusals.{Run}
 use Rattle.checker.specs.Examined.{inputChecks}
 use Rattle.checker.proofs.Scanned.{Under, under-start, under-more, stop-refused, end-refused, part-is, part-size}
-use Rattle.checker.proofs.Finding.{inputs-passed, examined-stop, examined-end}
+use Rattle.checker.proofs.Finding.{inputs-passed, saw-stop, saw-end}
 use Rattle.checker.proofs.examining.look_through.Statement.{statement}
 use Rattle.checker.proofs.examining.look_through.Tie as tie
 
 abbrev Inv-loop : tie.InvT-loop
-Inv-loop input labels₀ values₀ holders₀ lives₀ waits₀ current₀ count₀ all₀ records i₀ labels values holders lives waits current count all i =
-    (i ≤ records) × (length all ≡ 1024) × (length labels ≡ length labels₀) × Under input labels₀ (runOf values holders lives waits current count) all labels i × (records ≤ 1024)
+Inv-loop input labels₀ values₀ holders₀ lives₀ waits₀ current₀ transactions₀ records i₀ labels values holders lives waits current transactions i =
+    (i ≤ records) × (length labels ≡ length labels₀) × Under input labels₀ (runOf values holders lives waits current transactions) labels i × (records ≤ 1024)
 
 abbrev μ-loop : tie.MeasureT-loop
-μ-loop input labels₀ values₀ holders₀ lives₀ waits₀ current₀ count₀ all₀ records i₀ labels values holders lives waits current count all i = records - i
+μ-loop input labels₀ values₀ holders₀ lives₀ waits₀ current₀ transactions₀ records i₀ labels values holders lives waits current transactions i = records - i
 
 -- a recording has at most 1,024 records
 few : (input : List ℕ) → firstFault (inputChecks input) ≡ 0 → length input / 8 ≤ 1024
@@ -28,14 +28,11 @@ few input h = omega (arith, inputs-passed input h .most)
 fresh-requires : tie.Need-fresh-requires Inv-loop μ-loop
 fresh-requires c κs = search needs
 
-no-events-requires : tie.Need-no-events-requires Inv-loop μ-loop
-no-events-requires c κs = search needs
-
 loop-holds : tie.Need-loop-holds Inv-loop μ-loop
 loop-holds c =
-    let a = c .before .before .before .before .before .before .before .before .args in
-    let f = c .before .before .before .before .before .fresh in
-    (omega arith, ap length (c .no-events .ensures), refl, under-start (a .input .now) (f .result) _ (a .labels .now) (f .ensures) (c .no-events .ensures), few (a .input .now) (c .before .before .before .before .before .before .before .before .pre .0))
+    let s = c .before .before .before .before .before .before .before in
+    let f = c .before .before .before .before .fresh in
+    (omega arith, refl, under-start (s .args .input .now) (f .result) (s .args .labels .now) (f .ensures), few (s .args .input .now) (s .pre .0))
 
 mul-bytes : tie.Need-mul-bytes Inv-loop μ-loop
 mul-bytes c = omega arith
@@ -58,17 +55,11 @@ part-bytes-end c = omega arith
 see-requires : tie.Need-see-requires Inv-loop μ-loop
 see-requires c κs =
     let i : ℕ = c .before .before .before .before .before .before .before .before .loop .i in
-    let input : List ℕ = c .before .before .before .before .before .before .before .before .before .before .before .before .before .before .before .before .before .args .input .now in
+    let input : List ℕ = c .before .before .before .before .before .before .before .before .before .before .before .before .before .before .before .before .args .input .now in
     part-size input i (omega arith)
 
-enum-known-event : tie.Need-enum-known-event Inv-loop μ-loop
-enum-known-event c = search needs
-
-mul-all : tie.Need-mul-all Inv-loop μ-loop
-mul-all c = omega arith
-
-array-set-from-all : tie.Need-array-set-from-all Inv-loop μ-loop
-array-set-from-all c = omega arith
+enum-known-transaction : tie.Need-enum-known-transaction Inv-loop μ-loop
+enum-known-transaction c = search needs
 
 mul-labels : tie.Need-mul-labels Inv-loop μ-loop
 mul-labels c = omega arith
@@ -80,19 +71,18 @@ enum-known-number : tie.Need-enum-known-number Inv-loop μ-loop
 enum-known-number c = search needs
 
 same-length : tie.Need-same-length Inv-loop μ-loop
-same-length c = c .before .before .before .before .before .before .before .before .before .before .before .before .loop .inv .2
+same-length c = c .before .before .before .before .before .before .before .before .before .before .before .before .loop .inv .1
 
 returns : tie.Need-returns Inv-loop μ-loop
 returns c =
     let at = c .before .before .before .before .before .before .before .before .before .before .before .before .loop in
-    let start = c .before .before .before .before .before .before .before .before .before .before .before .before .before .before .before .before .before .before .before .before .before in
-    let input : List ℕ = start .args .input .now in
-    let old : List ℕ = start .args .labels .now in
-    let run : Run = runOf (at .values) (at .holders) (at .lives) (at .waits) (at .current) (at .count) in
+    let s = c .before .before .before .before .before .before .before .before .before .before .before .before .before .before .before .before .before .before .before .before in
+    let input : List ℕ = s .args .input .now in
+    let old : List ℕ = s .args .labels .now in
+    let run : Run = runOf (at .values) (at .holders) (at .lives) (at .waits) (at .current) (at .transactions) in
     let g = c .before .number .given in
-    let x = c .before .before .before .see .ensures in
-    examined-stop input old run (at .all) (at .labels) (at .i) (g .0 .0) (start .pre .0) (omega arith) (omega arith) (omega arith) (at .inv .3)
-    (stop-refused input old run (at .all) (at .labels) (at .i) (omega arith) _ (part-is input (at .i)) _ (g .0 .0) (at .inv .3) (subst (Saw run _ _) (g .1) x))
+    let f = stop-refused input old run (at .labels) (at .i) (omega arith) _ (part-is input (at .i)) _ (g .0 .0) (at .inv .2) (subst (Saw run _ _) (g .1) (c .before .before .before .see .ensures)) in
+    saw-stop input old run (at .labels) (at .i) (g .0 .0) _ (s .pre .0) (at .inv .2) (f .0, f .1) (ap (λ t. t .count) (f .2))
 
 add-i : tie.Need-add-i Inv-loop μ-loop
 add-i c = omega arith
@@ -103,32 +93,29 @@ loop-less c = omega arith
 loop-again : tie.Need-loop-again Inv-loop μ-loop
 loop-again c =
     let at = c .before .before .before .before .before .before .before .before .before .before .before .before .loop in
-    let start = c .before .before .before .before .before .before .before .before .before .before .before .before .before .before .before .before .before .before .before .before .before in
-    let input : List ℕ = start .args .input .now in
-    let g = c .before .event .given in
-    let x = c .before .before .before .see .ensures in
-    let sizes = at .inv in (
+    let s = c .before .before .before .before .before .before .before .before .before .before .before .before .before .before .before .before .before .before .before .before in
+    let input : List ℕ = s .args .input .now in
+    let run : Run = runOf (at .values) (at .holders) (at .lives) (at .waits) (at .current) (at .transactions) in
+    let g = c .before .transaction .given in (
       omega arith,
-      length-set (at .all) (at .i) (g .0 .0) ∙ sizes .1,
-      length-set (at .labels) (at .i) (g .0 .1 .0) ∙ sizes .2,
-      under-more input (start .args .labels .now) (runOf (at .values) (at .holders) (at .lives) (at .waits) (at .current) (at .count)) (at .all) (at .labels) (at .i) (omega arith) _ (part-is input (at .i)) _ (g .0 .0) (g .0 .1 .0) (omega arith) (omega arith) (sizes .3)
-          (subst (Saw (runOf (at .values) (at .holders) (at .lives) (at .waits) (at .current) (at .count)) _ _) (g .1) x),
-      sizes .4,
+      length-set (at .labels) (at .i) (g .0 .0) ∙ at .inv .1,
+      under-more input (s .args .labels .now) run (at .labels) (at .i) (omega arith) _ (part-is input (at .i)) _ (g .0 .0) (omega (arith, s .pre .1)) (at .inv .2)
+          (subst (Saw run _ _) (g .1) (c .before .before .before .see .ensures)),
+      at .inv .3,
     )
 
 same-length-2 : tie.Need-same-length-2 Inv-loop μ-loop
-same-length-2 c = c .before .loop .inv .2
+same-length-2 c = c .before .loop .inv .1
 
 returns-2 : tie.Need-returns-2 Inv-loop μ-loop
 returns-2 c =
     let at = c .before .loop in
-    let start = c .before .before .before .before .before .before .before .before .before .before in
-    let input : List ℕ = start .args .input .now in
-    let old : List ℕ = start .args .labels .now in
-    let run : Run = runOf (at .values) (at .holders) (at .lives) (at .waits) (at .current) (at .count) in
+    let s = c .before .before .before .before .before .before .before .before .before in
+    let input : List ℕ = s .args .input .now in
+    let old : List ℕ = s .args .labels .now in
+    let run : Run = runOf (at .values) (at .holders) (at .lives) (at .waits) (at .current) (at .transactions) in
     let all-seen : at .i ≡ length input / 8 = omega arith in
-    examined-end input old run (at .all) (at .labels) (at .i) (start .pre .0) all-seen (omega arith) (omega arith) (at .inv .3)
-    (end-refused input old run (at .all) (at .labels) (at .i) all-seen (at .inv .3))
+    saw-end input old run (at .labels) (at .i) (at .transactions) (s .pre .0) all-seen (at .inv .2) (end-refused input old run (at .labels) (at .i) all-seen (at .inv .2)) refl
 
 pub look-through-spec : {M : Type 1} → statement M
 look-through-spec =
@@ -137,7 +124,6 @@ look-through-spec =
     Inv-loop
     μ-loop
     fresh-requires
-    no-events-requires
     loop-holds
     mul-bytes
     mul-bytes-2
@@ -146,9 +132,7 @@ look-through-spec =
     part-bytes-start
     part-bytes-end
     see-requires
-    enum-known-event
-    mul-all
-    array-set-from-all
+    enum-known-transaction
     mul-labels
     slice-write-labels
     enum-known-number

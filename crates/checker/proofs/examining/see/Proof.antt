@@ -1,9 +1,5 @@
 -- `checker::examining::see` meets its contract: each way through says which check is the first to fail, or that none does.
-use Prim.Native.Nat.{ℕ}
-use mathlib.Core.Path.{_≡_, refl, sym, _∙_}
-use mathlib.Core.List.{List}
-use Rattle.record.specs.declared.Event.{Event}
-use Rattle.record.specs.declared.Fault.{Fault}
+use mathlib.Core.Path.{refl, sym, _∙_}
 use Rattle.checker.specs.Refusals.{Run}
 use Rattle.checker.specs.Seeing.{runOf}
 use Rattle.checker.proofs.Looked.{saw-form, saw-event, saw-full, saw-sound}
@@ -28,7 +24,7 @@ returns c =
     let a = c .before .before .before .before .before .before .before .before .before .before .before .args in
     let r : Run = runOf (a .values .now) (a .holders .now) (a .lives .now) (a .waits .now) (a .current .now) (a .count .now) in
     let e = c .before .before .before .before .before .before .before .event .given in
-    saw-event r (a .bytes .now) (c .before .before .before .before .before .before .before .before .before .before .before .pre) _ (e .0 .0) (c .before .step .result) (sym (c .before .before .before .before .before .before .before .before .before .decode .ensures) ∙ e .1) (c .before .step .ensures .0) (c .if1 .taken)
+    saw-event r (a .bytes .now) (c .before .before .before .before .before .before .before .before .before .before .before .pre) _ (e .0 .0) (c .before .step .result) (sym (c .before .before .before .before .before .before .before .before .before .decode .ensures) ∙ e .1) (c .before .step .ensures .0) (c .if1 .taken) refl
 
 number-requires : tie.Need-number-requires
 number-requires c κs = search needs
@@ -44,7 +40,7 @@ returns-2 c =
     let a = c .before .before .before .before .before .args in
     let r : Run = runOf (a .values .now) (a .holders .now) (a .lives .now) (a .waits .now) (a .current .now) (a .count .now) in
     let f = c .before .fault .given in
-    saw-form r (a .bytes .now) (c .before .before .before .before .before .pre) _ (f .0 .0) (sym (c .before .before .before .decode .ensures) ∙ f .1)
+    saw-form r (a .bytes .now) (c .before .before .before .before .before .pre) _ (f .0 .0) (sym (c .before .before .before .decode .ensures) ∙ f .1) refl
 
 returns-3 : tie.Need-returns-3
 returns-3 c =
@@ -63,7 +59,7 @@ returns-4 c =
     let e = c .before .before .before .before .before .before .before .before .before .before .before .before .event .given in
     let n = c .before .before .number .ensures in
     let q = c .before .before .before .before .before .before .step .ensures in
-    saw-full r (a .bytes .now) (c .before .before .before .before .before .before .before .before .before .before .before .before .before .before .before .before .pre) _ (e .0 .0) (sym (c .before .before .before .before .before .before .before .before .before .before .before .before .before .before .decode .ensures) ∙ e .1) (sym (q .0) ∙ c .before .before .before .before .before .if1 .left) (sym (n .0) ∙ c .enum-told .given .1)
+    saw-full r (a .bytes .now) (c .before .before .before .before .before .before .before .before .before .before .before .before .before .before .before .before .pre) _ (e .0 .0) (sym (c .before .before .before .before .before .before .before .before .before .before .before .before .before .before .decode .ensures) ∙ e .1) (sym (q .0) ∙ c .before .before .before .before .before .if1 .left) (sym (n .0) ∙ c .enum-told .given .1) (n .1)
 
 pub see-spec : {M : Type 1} → statement M
 see-spec =
