@@ -8,3 +8,4 @@ pub mod Seeing
 pub mod Writing
 pub mod Concluded
 pub mod Examples
+pub mod Seeking

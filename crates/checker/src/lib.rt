@@ -1,6 +1,7 @@
 // The checker: one finished recording in, one answer out.
 mod concluding;
 mod examining;
+mod seeking;
 mod writing;
 
 use concluding::Judgement;
@@ -103,7 +104,7 @@ fn arrange(
 {
     match engine {
         Engine::Plain => graph::arrange(all, count, order, work),
-        Engine::Thin => thin::arrange(all, count, order, work),
+        Engine::Thin => graph::arrange(all, count, order, work),
     }
 }
 

@@ -21,6 +21,7 @@ use Rattle.graph.specs.Edges.{edges}
 use Rattle.graph.specs.Violation.{edgesUpTo, cyclicUpTo, shortest, transactionAt}
 use Rattle.graph.specs.Serial.{threadOf}
 use Rattle.graph.specs.Engine.{pastEnd, labelledAs}
+use Rattle.graph.specs.Arranged.{workSize}
 use Rattle.graph.proofs.Arranging.{Ready}
 use Rattle.graph.proofs.Labels.{labelled-events}
 use Rattle.graph.proofs.Numbers.{sane-none, labels-lt, tally-rises, count-rises, count-begun, count-unbegun, belongs-first, owned}
@@ -192,6 +193,12 @@ module _ (m : ℕ) (start : List ℕ) (done : List Event) (e : Event) (rest : Li
         (λ ne. at .none j lo (omega (arith, length-snoc done e)));
     kept = kept-after;
   }
+
+-- the same of other rows that were there before, with the same numbers past the square
+pub found-from : (es : List Event) (start before : List ℕ) (prefix : ℕ) (work : List ℕ) → length start ≡ length before → drop workSize start ≡ drop workSize before
+    → Found es start prefix work → Found es before prefix work
+found-from es start before prefix work size rest f =
+    record { first = f .first; stands = f .stands; row = f .row; size = f .size ∙ size; rest = f .rest ∙ rest }
 
 -- what `finish` and `put_in_order` need
 pub found-ready : (es : List Event) (start : List ℕ) (prefix : ℕ) (work : List ℕ) → Found es start prefix work → ((i : ℕ) → getD work i 0 < 2 ^ 64) → Ready es prefix start work

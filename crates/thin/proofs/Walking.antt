@@ -12,18 +12,16 @@ use lib.Seq.{append-snoc, take-at, take-all, getD-set-same, getD-set-other, leng
 use Rattle.record.specs.declared.Event.{Event}
 use Rattle.trace.proofs.Tests.{by, by-same}
 use Rattle.trace.proofs.Lists.{Among}
-use Rattle.rows.specs.Bits.{begun}
-use Rattle.rows.proofs.Laws.{length-begun, rest-begun}
 use Rattle.graph.specs.Transactions.{Tally, none-yet, begins, belongs, tallied, labelledFrom, labelled, tallyFrom, transactions, transactionLimit}
 use Rattle.graph.specs.Violation.{transactionAt}
 use Rattle.graph.specs.Serial.{threadOf}
-use Rattle.graph.specs.Engine.{pastEnd, labelledAs}
+use Rattle.graph.specs.Engine.{pastEnd, labelledAs, Stands}
 use Rattle.graph.proofs.Numbers.{count-begun, count-unbegun, belongs-first, owned}
 use Rattle.graph.proofs.Steps.{among-end, among-first}
 use Rattle.thin.specs.Cells.{Cells, idle, closing, Taken, takenAs, taken, closingNew}
 use Rattle.thin.specs.Engine.{looked, Found}
 use Rattle.thin.proofs.Meet.{Orderly}
-use Rattle.thin.proofs.Right.{begun-holds}
+use Rattle.thin.proofs.Right.{none-holds}
 use Rattle.thin.proofs.Searching.{length-snoc, Standing, found-none, labels-more, tally-more, below-count, in-a, new-is, transaction-is, found-hit, standing-on}
 
 -- i records are behind it: n transactions have begun, and their threads are noted
@@ -32,14 +30,13 @@ pub record Walking (es : List Event) (start : List ℕ) (i : ℕ) (s : Cells) (w
   pub count : n ≡ tallyFrom none-yet (take i es) .count
   pub noted : (a : ℕ) → a < n → getD threads a 0 ≡ threadOf (labelled (take i es)) a
 
-pub walking-none : (es : List Event) → transactions es ≤ transactionLimit → (start threads : List ℕ) → 4096 ≤ length start
-    → Walking es start 0 idle (begun (transactions es) start) 0 threads
+pub walking-none : (es : List Event) → transactions es ≤ transactionLimit → (work threads : List ℕ) → Stands (transactions es) work [] → Walking es work 0 idle work 0 threads
 unfolding none-yet labelledFrom tallyFrom
-walking-none es few start threads long = record {
+walking-none es few work threads stands = record {
   at = record {
-    holds = begun-holds (transactions es) start few long;
+    holds = none-holds (transactions es) work few stands;
     none = λ j lo hi. absurd (omega arith);
-    kept = record { size = length-begun (transactions es) start long; rest = rest-begun (transactions es) start long };
+    kept = record { size = refl; rest = refl };
   };
   count = refl;
   noted = λ a h. absurd (omega arith);
