@@ -1,5 +1,5 @@
 -- The walk of the second engine over a recording: its records by their bytes, its transactions by the labels. What the code of the walk cites.
-use Prim.Native.Nat.{ℕ, suc, _+_, _-_, _*_, _/_, _^_, _<_, _≤_}
+use Prim.Native.Nat.{ℕ, _+_, _-_, _*_, _/_, _^_, _<_, _≤_}
 use native.Mathlib.Omega.{arith}
 use mathlib.Core.Path.{_≡_, refl, sym, ap, ap₂, _∙_, subst}
 use mathlib.Core.Bool.{Bool, true, false, cond}
@@ -13,7 +13,6 @@ use Rattle.trace.specs.Lists.{over}
 use Rattle.rows.specs.Bits.{begun, cleared}
 use Rattle.rows.proofs.Laws.{length-begun, rest-begun}
 use Rattle.graph.specs.declared.Arranged.the-variants.{Ordered}
-use Rattle.graph.specs.Transactions.{labelled, transactions, transactionLimit}
 use Rattle.graph.specs.Violation.{transactionAt}
 use Rattle.graph.specs.Arranged.{workSize, Arrangement, arranged}
 use Rattle.graph.specs.Finished.{orderedBy, finished}
@@ -24,7 +23,7 @@ use Rattle.graph.proofs.Round.{blank, number-at}
 use Rattle.graph.proofs.Standing.{begun-stands}
 use Rattle.graph.proofs.Finishing.{finished-right, ordered-right}
 use Rattle.thin.specs.Cells.{Cells, idle, takenAs, taken, closingNew}
-use Rattle.thin.specs.Engine.{looked, Found}
+use Rattle.thin.specs.Engine.{looked}
 use Rattle.thin.proofs.Meet.{Orderly}
 use Rattle.thin.proofs.Walk.{orderly-means}
 use Rattle.thin.proofs.Searching.{found-from, found-ready}

@@ -1,15 +1,15 @@
 -- How long what is answered is: the serial order, the serial trace, the reported cycle; and how many transactions there are.
 use Prim.Native.Nat.{ℕ, zero, suc, pred, _+_, _≤_}
 use native.Mathlib.Omega.{arith}
-use mathlib.Core.Path.{_≡_, refl, sym, ap, _∙_, subst}
-use mathlib.Core.Bool.{Bool, true, false}
+use mathlib.Core.Path.{_≡_, sym, ap}
+use mathlib.Core.Bool.{true, false}
 use mathlib.Core.List.{List, [], _∷_}
 use lib.ListN.{length}
 use Rattle.record.specs.declared.Event.{Event}
 use Rattle.trace.specs.Paths.{Edge}
 use Rattle.trace.proofs.Tests.{by}
 use Rattle.trace.proofs.Swaps.{length-swaps}
-use Rattle.trace.proofs.Sizes.{taking-most, taking-size}
+use Rattle.trace.proofs.Sizes.{taking-size}
 use Rattle.graph.specs.Conflict.{conflict}
 use Rattle.graph.specs.Transactions.{Tally, none-yet, begins, tallied, tallyFrom, labelled, transactions}
 use Rattle.graph.specs.Edges.{edges}

@@ -2,9 +2,9 @@
 use Prim.Native.Nat.{ℕ}
 use mathlib.Core.Path.{_≡_, refl, sym, ap, _∙_, subst}
 use mathlib.Core.Logic.{_≢_}
-use mathlib.Core.Bool.{Bool, true, false, not, _&&_, _||_}
+use mathlib.Core.Bool.{Bool, not, _&&_, _||_}
 use mathlib.Core.List.{List, [], _∷_, _++_}
-use lib.Dec.{T, T-not, not-T, eqb, eqb→eq, eqb-refl}
+use lib.Dec.{T, not-T, eqb, eqb→eq, eqb-refl}
 use Rattle.trace.specs.Lists.{someOf}
 use Rattle.trace.specs.Paths.{Edge, hasEdge, Path, reaches}
 use Rattle.graph.specs.Conflict.{conflict}

@@ -1,7 +1,7 @@
 -- What the graph's engine answers of a run of events, and what it leaves: the transactions in serial order, or in cycle order.
 use Prim.Native.Nat.{ℕ, zero, suc}
 use mathlib.Core.Bool.{Bool, true, false, _&&_}
-use mathlib.Core.List.{List, []}
+use mathlib.Core.List.{List}
 use lib.ListN.{length, replicate}
 use lib.Dec.{leb}
 use Rattle.record.specs.declared.Event.{Event}

@@ -1,7 +1,7 @@
 -- The end of arranging, by rows that are lent: what is named where bit a of row d of the work area is taken to say that a path leads from
 -- transaction a to d. Where it does, that is what `arranged` names (`proofs/Finishing`).
 use Prim.Native.Nat.{ℕ, zero, suc, pred}
-use mathlib.Core.Bool.{Bool, true, false, cond, not, _&&_}
+use mathlib.Core.Bool.{true, false, cond, not, _&&_}
 use mathlib.Core.List.{List, [], _∷_}
 use lib.ListN.{length, getD, replicate}
 use lib.Dec.{eqb, leb}

@@ -2,7 +2,7 @@
 use crate::Numbered;
 use record::Event;
 ghost use Prim.Native.Nat.{_≤_};
-ghost use lib.ListN.{length, take};
+ghost use lib.ListN.{length};
 ghost use Rattle.graph.specs.Engine.{Labels};
 
 // What labelling a run of events finds: how many transactions they have, or that a 513th would begin.

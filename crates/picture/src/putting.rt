@@ -2,8 +2,7 @@
 use crate::Drawn;
 use checker::Refusal;
 ghost use mathlib.Core.Path.{_≡_};
-ghost use mathlib.Core.List.{List};
-ghost use Prim.Native.Nat.{ℕ, _+_, _*_, _≤_, _<_};
+ghost use Prim.Native.Nat.{_+_, _*_, _≤_, _<_};
 ghost use lib.ListN.{length};
 ghost use Rattle.trace.specs.Lists.{each, below};
 ghost use Rattle.decimal.specs.Decimal.{decimal};

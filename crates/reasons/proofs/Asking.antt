@@ -4,14 +4,14 @@ use native.Mathlib.Omega.{arith}
 use native.Mathlib.Numerals.{add-one}
 use mathlib.Core.Path.{_≡_, refl, sym, ap, ap₂, _∙_, subst}
 use mathlib.Core.Logic.{inl, inr}
-use mathlib.Core.List.{List, [], _∷_, _++_}
+use mathlib.Core.List.{List, []}
 use lib.ListN.{length, drop, take, length-append}
 use borrow.Author.Tests.{lt-ltb}
 use Rattle.record.specs.declared.Event.{Event}
 use Rattle.record.specs.Record.{inTwo}
 use Rattle.trace.specs.Lists.{each, over, below}
 use Rattle.trace.proofs.Lists.{Earliest, earliest}
-use Rattle.graph.specs.Transactions.{Labelled, labelled, transactions}
+use Rattle.graph.specs.Transactions.{Labelled, labelled}
 use Rattle.graph.specs.Violation.{cyclicUpTo, shortest, cycleOf}
 use Rattle.graph.specs.Engine.{held}
 use Rattle.graph.proofs.Sizes.{cycle-most}

@@ -1,9 +1,9 @@
 -- What makes an edge of the reported cycle: there is a pair that does, and the one that is given is the earliest; its reason holds and is the first.
-use Prim.Native.Nat.{ℕ, zero, suc, _+_, _-_, _<_, _≤_}
+use Prim.Native.Nat.{ℕ, zero, suc, _-_, _<_}
 use native.Mathlib.Omega.{arith}
-use mathlib.Core.Path.{_≡_, refl, sym, ap, ap₂, _∙_, subst}
-use mathlib.Core.Bool.{Bool, true, false, _&&_}
-use mathlib.Core.List.{List, [], _∷_, map}
+use mathlib.Core.Path.{_≡_, sym, ap, ap₂, _∙_, subst}
+use mathlib.Core.Bool.{_&&_}
+use mathlib.Core.List.{List, [], _∷_}
 use lib.ListN.{length, getD, take, List·getD-map}
 use lib.Seq.{length-take-le, getD-take}
 use lib.Dec.{T, eqb, eqb→eq, eqb-refl}
@@ -12,11 +12,10 @@ use Rattle.trace.specs.Paths.{Edge, hasEdge}
 use Rattle.trace.proofs.Tests.{and-left, and-right, and-both}
 use Rattle.trace.proofs.Lists.{Earliest, earliest, before-at}
 use Rattle.graph.specs.Conflict.{conflict}
-use Rattle.graph.specs.Transactions.{Tally, none-yet, tallied, Labelled, labelledFrom, labelled}
-use Rattle.graph.specs.Edges.{edges}
+use Rattle.graph.specs.Transactions.{none-yet, Labelled, labelled}
 use Rattle.graph.specs.Violation.{edgesUpTo, cyclicUpTo, shortest, transactionAt, cycleOf}
 use Rattle.graph.specs.Engine.{pastEnd, labelledAs}
-use Rattle.graph.specs.Rule.{Closes, Leads, Follows, Reported}
+use Rattle.graph.specs.Rule.{Follows, Reported}
 use Rattle.graph.proofs.Numbers.{labelled-take}
 use Rattle.graph.proofs.Labels.{labelled-events}
 use Rattle.graph.proofs.Round.{labelled-length, cycle-right}

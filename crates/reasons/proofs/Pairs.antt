@@ -1,12 +1,12 @@
 -- The earliest pair that passes a test: the lowest first number, and for it the lowest second. Over any test of two numbers, the first below the second.
-use Prim.Native.Nat.{ℕ, zero, suc, _+_, _-_, _<_, _≤_}
+use Prim.Native.Nat.{ℕ, suc, _+_, _-_, _<_, _≤_}
 use native.Mathlib.Omega.{arith}
-use mathlib.Core.Path.{_≡_, refl, sym, ap, _∙_, subst}
-use mathlib.Core.Bool.{Bool, true, false}
+use mathlib.Core.Path.{_≡_}
+use mathlib.Core.Bool.{Bool, false}
 use mathlib.Core.List.{List}
 use lib.Dec.{T}
 use Rattle.trace.specs.Lists.{someOf, firstOf, from, below}
-use Rattle.trace.proofs.Tests.{T-of, T-is}
+use Rattle.trace.proofs.Tests.{T-is}
 use Rattle.trace.proofs.Lists.{Among, from-among, from-bound, from-le, below-has, below-bound, some-none, some-has, Holds, some-at, first-passes, first-among, first-least, first-below, first-is, first-default}
 
 module _ (hit : ℕ → ℕ → Bool) (n : ℕ) where

@@ -2,15 +2,15 @@
 use Prim.Native.Nat.{ℕ, _≤_}
 use native.Mathlib.Omega.{arith}
 use mathlib.Core.Path.{_≡_, refl, sym, ap, _∙_, subst}
-use mathlib.Core.Logic.{_⊎_, inl, inr, ⊎-elim}
+use mathlib.Core.Logic.{inl, inr}
 use mathlib.Core.Bool.{Bool, true, false, _&&_, _||_}
-use mathlib.Core.List.{List, [], _∷_}
+use mathlib.Core.List.{[], _∷_}
 use lib.Dec.{T, leb, eqb, eqb→eq, eqb-refl}
 use borrow.Author.Tests.{eq-eqb, ne-eqb}
 use Rattle.record.specs.declared.Event.{Event}
 use Rattle.record.specs.Record.{kind, target}
 use Rattle.trace.specs.Lists.{firstOf}
-use Rattle.trace.proofs.Tests.{by, T-of, or-cases, and-right}
+use Rattle.trace.proofs.Tests.{by, T-of, and-right}
 use Rattle.graph.specs.Conflict.{accesses, writes, locks, forks, joins, sameThread, sameVariable, sameLock, governs, sameChild, conflict}
 use Rattle.reasons.specs.declared.Reason.{Reason}
 use Rattle.reasons.specs.declared.Reason.the-variants.{Thread, Variable, Lock, ForkJoin}

@@ -3,7 +3,7 @@ use Prim.Native.Nat.{ℕ, zero, suc, _<_, _≤_}
 use native.Mathlib.Omega.{arith}
 use mathlib.Core.Path.{_≡_, refl, sym, ap, ap₂, _∙_, subst}
 use mathlib.Core.Logic.{_⊎_, inl, inr, ⊎-elim}
-use mathlib.Core.Bool.{Bool, true, false}
+use mathlib.Core.Bool.{true, false}
 use mathlib.Core.List.{List, [], _∷_}
 use lib.ListN.{length, getD}
 use lib.Dec.{ltb}
@@ -14,8 +14,6 @@ use Rattle.trace.proofs.Tests.{by}
 use Rattle.checker.specs.Verdict.{cooperable, violation}
 use Rattle.checker.specs.Verdict as Verdict
 use Rattle.checker.specs.Refusals.{refusal, events}
-use Rattle.checker.specs.Judged.{judged}
-use Rattle.checker.specs.Demand3.{numbersIn}
 use Rattle.checker.proofs.Demand3.{is-cooperable, is-violation, numbers-are, refused-keeps}
 use Rattle.reasons.specs.declared.Reason.{Reason}
 use Rattle.reasons.specs.declared.Reason.the-variants.{Thread, Variable, Lock, ForkJoin}

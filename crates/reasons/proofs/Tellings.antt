@@ -1,14 +1,13 @@
 -- Laws of the lines that are told: a line stored after those before it, and all of them.
-use Prim.Native.Nat.{ℕ, zero, suc, _+_, _*_, _<_, _≤_}
+use Prim.Native.Nat.{ℕ, suc, _+_, _*_, _<_, _≤_}
 use native.Mathlib.Omega.{arith}
-use native.Mathlib.Numerals.{add-one}
 use native.Mathlib.Nat.{zero-add}
 use mathlib.Core.Path.{_≡_, refl, sym, ap, ap₂, _∙_, subst}
 use mathlib.Core.List.{List, [], _∷_, append-assoc}
 use lib.ListN.{length, getD, set, take, drop}
 use lib.Seq.{sets-eq}
 use Rattle.record.specs.declared.Event.{Event}
-use Rattle.trace.specs.Lists.{each, over, from, below}
+use Rattle.trace.specs.Lists.{each, over, below}
 use Rattle.trace.proofs.Lists.{length-from, from-at}
 use Rattle.graph.specs.Transactions.{Labelled}
 use Rattle.graph.specs.Engine.{held}

@@ -18,7 +18,6 @@ use Rattle.checker.specs.Demand3.{numbersIn}
 use Rattle.reasons.specs.declared.Reason.{Reason}
 use Rattle.reasons.specs.declared.Reason.the-variants.{Thread, Variable, Lock, ForkJoin}
 use Rattle.reasons.specs.declared.Cause.{Cause}
-use Rattle.reasons.specs.declared.Told.{Told}
 use Rattle.reasons.specs.declared.Told.the-variants.{Because, NoSuchEdge, Refused}
 use Rattle.reasons.specs.Why.{nameOf, numberOf, originOf, goalOf, told}
 

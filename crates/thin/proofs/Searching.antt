@@ -1,37 +1,34 @@
 -- The walk over the records finds the shortest prefix with a cycle, and leaves the rows by which the order or the cycle is named.
 use Prim.Native.Nat.{ℕ, suc, _+_, _<_, _≤_, _^_}
 use native.Mathlib.Omega.{arith}
-use native.Mathlib.Numerals.{add-one}
-use mathlib.Core.Path.{_≡_, refl, sym, ap, ap₂, _∙_, subst}
+use mathlib.Core.Path.{_≡_, refl, sym, ap, _∙_, subst}
 use mathlib.Core.Bool.{true, false, cond}
 use mathlib.Core.List.{List, [], _∷_, _++_, map}
-use borrow.Author.Tests.{eq-eqb, ne-eqb}
+use borrow.Author.Tests.{ne-eqb}
 use lib.Dec.{eqb}
-use lib.ListN.{length, getD, set, take, drop, length-append}
-use lib.Seq.{append-snoc, take-at, take-all, getD-at, getD-set-same, getD-set-other, length-take-le, split-at}
+use lib.ListN.{length, getD, take, drop, length-append}
+use lib.Seq.{append-snoc, take-at, getD-at}
 use Rattle.record.specs.declared.Event.{Event}
 use Rattle.trace.specs.Lists.{from}
 use Rattle.trace.specs.Paths.{reaches, cyclic}
 use Rattle.trace.proofs.Tests.{by, by-same}
 use Rattle.trace.proofs.Lists.{Among, first-default, first-is, from-le, from-bound, map-append}
-use Rattle.rows.specs.Bits.{has, begun}
-use Rattle.rows.proofs.Laws.{length-begun, rest-begun}
-use Rattle.graph.specs.Transactions.{Tally, none-yet, begins, belongs, tallied, Labelled, labelledFrom, labelled, tallyFrom, transactions, transactionLimit}
+use Rattle.rows.specs.Bits.{has}
+use Rattle.graph.specs.Transactions.{Tally, none-yet, belongs, tallied, Labelled, labelledFrom, labelled, tallyFrom, transactions}
 use Rattle.graph.specs.Edges.{edges}
 use Rattle.graph.specs.Violation.{edgesUpTo, cyclicUpTo, shortest, transactionAt}
-use Rattle.graph.specs.Serial.{threadOf}
-use Rattle.graph.specs.Engine.{pastEnd, labelledAs}
+use Rattle.graph.specs.Engine.{labelledAs}
 use Rattle.graph.specs.Arranged.{workSize}
 use Rattle.graph.proofs.Arranging.{Ready}
 use Rattle.graph.proofs.Labels.{labelled-events}
-use Rattle.graph.proofs.Numbers.{sane-none, labels-lt, tally-rises, count-rises, count-begun, count-unbegun, belongs-first, owned}
+use Rattle.graph.proofs.Numbers.{sane-none, labels-lt, tally-rises, count-rises}
 use Rattle.graph.proofs.Standing.{Kept, kept-then, stands-fewer}
-use Rattle.graph.proofs.Steps.{among-end, among-first}
-use Rattle.thin.specs.Cells.{Cells, idle, closing, Taken, takenAs, taken, closingNew}
+use Rattle.graph.proofs.Steps.{among-end}
+use Rattle.thin.specs.Cells.{Cells, closing, Taken, taken, closingNew}
 use Rattle.thin.specs.Engine.{looked, Found}
 use Rattle.thin.proofs.Meet.{Orderly}
 use Rattle.thin.proofs.Agree.{eventsIn}
-use Rattle.thin.proofs.Right.{Holds, begun-holds, orderly-first, closing-right, closing-same, Looks, looks-all, looks-first, taken-row, taken-kept, taken-right}
+use Rattle.thin.proofs.Right.{Holds, orderly-first, closing-right, closing-same, Looks, looks-all, looks-first, taken-row, taken-kept, taken-right}
 
 -- ---- labels and counts of one run of events after another
 

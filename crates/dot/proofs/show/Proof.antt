@@ -1,9 +1,8 @@
 -- `dot::show` meets its contract, which is that it can be run: the part that is printed is as long as it says.
 use native.Mathlib.Omega.{arith}
-use Prim.Native.Nat.{ℕ, _≤_}
+use Prim.Native.Nat.{ℕ}
 use mathlib.Core.Path.{sym}
 use mathlib.Core.List.{List}
-use lib.ListN.{length}
 use lib.Seq.{length-take-le}
 use borrow.Author.Needs.{needs}
 use Rattle.dot.proofs.show.Statement.{statement}

@@ -1,5 +1,5 @@
 -- `graph::finish` meets its contract.
-use Prim.Native.Nat.{_<_, _≤_, min}
+use Prim.Native.Nat.{_<_, min}
 use native.Mathlib.Omega.{arith}
 use mathlib.Core.Path.{_≡_, ap, _∙_, subst}
 use lib.ListN.{length, take}

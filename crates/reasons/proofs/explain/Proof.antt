@@ -1,9 +1,6 @@
 -- `reasons::explain` meets its contract: the checker's answer, then the records examined again and a line for each edge.
-use Prim.Native.Nat.{ℕ, _+_, _*_, _/_, _<_, _≤_}
 use native.Mathlib.Omega.{arith}
-use mathlib.Core.Path.{_≡_, refl}
 use borrow.Author.Needs.{needs}
-use Rattle.checker.specs.declared.Answer.the-variants.{Cooperable, Violation, Refused}
 use Rattle.reasons.proofs.Asking.{Violates, held-again, judged-as, violated, lines-violation, lines-none}
 use Rattle.reasons.proofs.explain.Statement.{statement}
 use Rattle.reasons.proofs.explain.Tie as tie

@@ -1,7 +1,5 @@
 -- `reasons::why` meets its contract: the checker's answer, then the records examined again and searched.
-use Prim.Native.Nat.{ℕ, _+_, _*_, _/_, _<_, _≤_}
 use native.Mathlib.Omega.{arith}
-use mathlib.Core.Path.{_≡_, refl, sym, _∙_}
 use borrow.Author.Needs.{needs}
 use Rattle.reasons.proofs.Asking.{Violates, held-again, says-refused, says-cooperable, says-past, violated, cause-is, says-because}
 use Rattle.reasons.proofs.why.Statement.{statement}

@@ -1,9 +1,6 @@
 -- `checker::seeking::arrange` meets its contract: the rows begun, the search, and what is named by it.
-use Prim.Native.Nat.{ℕ}
 use native.Mathlib.Omega.{arith}
-use mathlib.Core.Path.{_≡_, refl, _∙_}
-use mathlib.Core.List.{List}
-use lib.ListN.{length}
+use mathlib.Core.Path.{refl, _∙_}
 use denote.Ref.{now}
 use Rattle.checker.proofs.Walked.{begun-none, named-cycle, named-order}
 use borrow.Author.Needs.{needs}

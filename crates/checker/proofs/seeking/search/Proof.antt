@@ -1,10 +1,10 @@
 -- `checker::seeking::search` meets its contract: i records are behind the walk, and the threads of their transactions are noted.
 use borrow.Author.Needs.{needs}
-use Prim.Native.Nat.{_+_, _-_, _<_, _≤_}
+use Prim.Native.Nat.{_-_, _<_, _≤_}
 use native.Mathlib.Omega.{arith}
 use mathlib.Core.Path.{_≡_, refl, _∙_}
 use lib.ListN.{length, getD, length-set}
-use Rattle.thin.specs.Cells.{Cells, cellsOf, idle}
+use Rattle.thin.specs.Cells.{cellsOf, idle}
 use Rattle.thin.proofs.Walking.{Walking}
 use Rattle.checker.specs.Refusals.{events}
 use Rattle.checker.proofs.Walked.{seeking-none, seeking-all, seeking-label, seeking-hit, seeking-more}

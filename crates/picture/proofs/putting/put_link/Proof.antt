@@ -1,7 +1,6 @@
 -- `picture::putting::put_link` meets its contract: the line of an edge, or nothing.
 use native.Mathlib.Omega.{arith}
 use mathlib.Core.Path.{sym, _∙_}
-use Rattle.picture.specs.Picture.{edge}
 use Rattle.picture.proofs.Pieces.{puts-none, puts-as}
 use Rattle.picture.proofs.Texts.{link-some, link-none}
 use borrow.Author.Needs.{needs}

@@ -1,5 +1,4 @@
 -- `reasons::reasoning::governs` meets its contract. Assumes nothing.
-use Prim.Native.Nat.{ℕ}
 use native.Mathlib.Omega.{arith}
 use mathlib.Core.Path.{_≡_}
 use borrow.Author.Tests.{ne-eqb}

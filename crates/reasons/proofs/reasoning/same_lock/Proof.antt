@@ -1,7 +1,5 @@
 -- `reasons::reasoning::same_lock` meets its contract. Assumes nothing.
-use Prim.Native.Nat.{ℕ}
 use native.Mathlib.Omega.{arith}
-use mathlib.Core.Path.{_≡_}
 use borrow.Author.Tests.{le-leb, lt-leb}
 use Rattle.reasons.proofs.reasoning.same_lock.Statement.{statement}
 use Rattle.reasons.proofs.reasoning.same_lock.Tie as tie

@@ -1,9 +1,8 @@
 -- `reasons::reasoning::same_variable` meets its contract. Assumes nothing.
-use Prim.Native.Nat.{ℕ}
 use native.Mathlib.Omega.{arith}
 use mathlib.Core.Path.{_≡_}
 use lib.Dec.{leb}
-use borrow.Author.Tests.{le-leb, lt-leb, eq-eqb, ne-eqb}
+use borrow.Author.Tests.{le-leb, lt-leb, ne-eqb}
 use Rattle.trace.proofs.Tests.{by}
 use Rattle.reasons.proofs.reasoning.same_variable.Statement.{statement}
 use Rattle.reasons.proofs.reasoning.same_variable.Tie as tie

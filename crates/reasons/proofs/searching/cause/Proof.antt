@@ -1,7 +1,7 @@
 -- `reasons::searching::cause` meets its contract.
-use Prim.Native.Nat.{ℕ, _<_}
+use Prim.Native.Nat.{_<_}
 use native.Mathlib.Omega.{arith}
-use mathlib.Core.Path.{_≡_, sym, subst}
+use mathlib.Core.Path.{sym, subst}
 use borrow.Author.Needs.{needs}
 use Rattle.reasons.proofs.Hits.{first-small, second-small, cause-right}
 use Rattle.reasons.proofs.searching.cause.Statement.{statement}

@@ -1,7 +1,6 @@
 -- `reasons::searching::cause_at` meets its contract: the edge's two transactions are read from the output.
-use Prim.Native.Nat.{ℕ}
 use native.Mathlib.Omega.{arith}
-use mathlib.Core.Path.{_≡_, sym, ap₂, _∙_}
+use mathlib.Core.Path.{sym, ap₂, _∙_}
 use borrow.Author.Needs.{needs}
 use Rattle.graph.specs.Engine.{held}
 use Rattle.reasons.specs.Why.{causeOf}

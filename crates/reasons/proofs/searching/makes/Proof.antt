@@ -1,5 +1,4 @@
 -- `reasons::searching::makes` meets its contract. Assumes nothing.
-use mathlib.Core.Path.{_≡_}
 use borrow.Author.Needs.{needs}
 use borrow.Author.Tests.{eq-eqb, ne-eqb}
 use Rattle.reasons.proofs.searching.makes.Statement.{statement}

@@ -1,13 +1,11 @@
 -- `reasons::searching::search` meets its contract: no pair that was passed makes the edge, and the loops are left at the first that does.
-use Prim.Native.Nat.{ℕ, _<_, _≤_, _-_}
+use Prim.Native.Nat.{_<_, _≤_, _-_}
 use native.Mathlib.Omega.{arith}
-use mathlib.Core.Path.{_≡_, refl, sym, _∙_, subst}
+use mathlib.Core.Path.{_≡_, refl, sym, _∙_}
 use mathlib.Core.Logic.{⊎-elim}
-use mathlib.Core.Bool.{false}
 use borrow.Author.Count.{below-more}
 use borrow.Author.Needs.{needs}
-use Rattle.reasons.specs.Why.{makesIt}
-use Rattle.reasons.proofs.Hits.{NoneBelow, NoneAt, records, hit-is, passed-over, Answered, hit-first, hit-none}
+use Rattle.reasons.proofs.Hits.{NoneBelow, NoneAt, hit-is, passed-over, hit-first, hit-none}
 use Rattle.reasons.proofs.searching.search.Statement.{statement}
 use Rattle.reasons.proofs.searching.search.Tie as tie
 
