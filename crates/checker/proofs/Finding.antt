@@ -3,9 +3,9 @@ use Prim.Native.Nat.{ℕ, zero, suc, _+_, _/_, _%_, _≤_}
 use native.Mathlib.Omega.{arith}
 use mathlib.Core.Path.{_≡_, refl, sym, ap, ap₂, _∙_}
 use mathlib.Core.Logic.{_≢_}
-use mathlib.Core.List.{List, [], _∷_, _++_, map}
+use mathlib.Core.List.{List, [], _∷_, _++_, map, append-nil}
 use lib.Dec.{eqb, leb}
-use lib.ListN.{length, getD, take, drop, replicate, length-map}
+use lib.ListN.{length, getD, take, drop, replicate}
 use lib.Seq.{take-suc, take-at, take-all}
 use borrow.Author.Tests.{eqb-true, leb-true, eq-eqb, le-leb}
 use Rattle.record.specs.declared.Event.{Event}
@@ -20,6 +20,7 @@ use Rattle.graph.specs.Engine.{recordAt, held}
 use Rattle.graph.proofs.Held.{held-take, held-cons}
 use Rattle.graph.proofs.Numbers.{labelled-take}
 use Rattle.graph.proofs.Labels.{labelled-events}
+use Rattle.graph.proofs.Round.{labelled-length}
 use Rattle.checker.specs.declared.Refusal.{Refusal}
 use Rattle.checker.specs.declared.examining.Looked.{Looked}
 use Rattle.checker.specs.Refusals.{sizeChecks, Run, start, onwards, recordChecks, Fault, noFault, recordsOf, firstRefusal, events}
@@ -30,11 +31,11 @@ use Rattle.checker.proofs.Scanned.{records-size, events-size, labelsOf,
 
 -- ---- Numbers 1 and 2
 
-pub record Whole (input : List ℕ) : Type 0 where
+pub record InputSized (input : List ℕ) : Type 0 where
   pub whole : length input % 8 ≡ 0
   pub most : length input ≤ 8192
 
-pub inputs-passed : (input : List ℕ) → firstFault (inputChecks input) ≡ 0 → Whole input
+pub inputs-passed : (input : List ℕ) → firstFault (inputChecks input) ≡ 0 → InputSized input
 unfolding inputChecks
 inputs-passed input h =
     let c1 = none-first 1 0 (eqb (length input % 8) 0) _ (omega arith) h in
@@ -187,29 +188,40 @@ held-front (x ∷ xs) all labels =
     held-cons (length xs) (x .event) (map (λ y. y .event) xs ++ all) (x .transaction) (map (λ y. y .transaction) xs ++ labels)
     ∙ ap (λ l. x ∷ l) (held-front xs all labels)
 
+-- events with others after them, and their labels
+held-labels : (es rest : List Event) (old labels : List ℕ) → labels ≡ over (labelsOf es) old → held (length es) (es ++ rest) labels ≡ labelled es
+unfolding over
+held-labels es rest old labels h =
+    ap₂ (λ (n : ℕ) (l : List Event). held n (l ++ rest) labels) (sym (labelled-length none-yet es)) (sym (labelled-events none-yet es))
+    ∙ ap (held (length (labelled es)) (map (λ x. x .event) (labelled es) ++ rest)) h
+    ∙ held-front (labelled es) rest (drop (length (labelsOf es)) old)
+
+-- of a recording without a fault all events are sound
+pub sound-events : (input : List ℕ) → inputRefusal input .number ≡ 0 → soundEvents input ≡ events input
+unfolding soundEvents
+sound-events input none =
+    ap (λ k. take k (events input)) (sound-all input none) ∙ take-all (length input / 8) (events input) (omega (arith, events-size input))
+
+pub events-held : (input old labels : List ℕ) → labels ≡ over (labelsOf (events input)) old → held (length input / 8) (events input) labels ≡ labelled (events input)
+events-held input old labels h =
+    ap₂ (λ (n : ℕ) (l : List Event). held n l labels) (sym (events-size input)) (sym (append-nil (events input))) ∙ held-labels (events input) [] old labels h
+
 pub found : (input old : List ℕ) (f : Fault) (all : List Event) (labels : List ℕ)
     → _≡_ {A = Examination} (record { refusal = f; all = all; labels = labels }) (examined input old) → f .number ≡ 0 → Found input all labels
-unfolding examined soundEvents over
+unfolding examined over
 found input old f all labels h none =
     let no : inputRefusal input .number ≡ 0 = ap (λ x. x .refusal .number) (sym h) ∙ none in
     let first : firstFault (inputChecks input) ≡ 0 = passed-first input no in
     let n : length (events input) ≡ length input / 8 = events-size input in
-    let es-are : take (sound input) (events input) ≡ events input = ap (λ k. take k (events input)) (sound-all input no) ∙ take-all (length input / 8) (events input) (omega (arith, n)) in
-    let xs : List Labelled = labelled (events input) in
-    let size : length xs ≡ length input / 8 = sym (length-map xs (λ x. x .event)) ∙ ap length (labelled-events none-yet (events input)) ∙ n in
     let rest : List Event = drop (length (events input)) (replicate 1024 noEvent) in
-    let all-are : all ≡ events input ++ rest = ap (λ x. x .all) h ∙ ap (λ l. l ++ drop (length l) (replicate 1024 noEvent)) es-are in
-    let ts : List ℕ = map (λ x. x .transaction) xs in
-    let labels-are : labels ≡ ts ++ drop (length ts) old = ap (λ x. x .labels) h
-    ∙ ap (λ l. map (λ x. x .transaction) (labelled l) ++ drop (length (map (λ (x : Labelled). x .transaction) (labelled l))) old) es-are in
+    let all-are : all ≡ events input ++ rest = ap (λ x. x .all) h ∙ ap (λ l. over l (replicate 1024 noEvent)) (sound-events input no) in
+    let labels-are : labels ≡ over (labelsOf (events input)) old = ap (λ x. x .labels) h ∙ ap (λ l. over (labelsOf l) old) (sound-events input no) in
     record {
       whole = inputs-passed input first .whole;
       most = inputs-passed input first .most;
       fine = ap (λ x. x .number) (sym (input-passed input first)) ∙ no;
       events-are = ap (take (length input / 8)) all-are ∙ take-at (events input) rest (length input / 8) n;
-      labelled-are = ap (λ k. held k all labels) (sym size)
-          ∙ ap₂ (held (length xs)) (all-are ∙ ap (λ l. l ++ rest) (sym (labelled-events none-yet (events input)))) labels-are
-          ∙ held-front xs rest (drop (length ts) old);
+      labelled-are = ap₂ (λ (k : ℕ) (l : List Event). held k l labels) (sym n) all-are ∙ held-labels (events input) rest old labels labels-are;
     }
 
 -- refused, by the number and the record that are told

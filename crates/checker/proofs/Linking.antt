@@ -1,42 +1,37 @@
--- Laws of the records linked by transaction: each transaction's numbers, its bytes, and where it begins.
-use Prim.Native.Nat.{ℕ, zero, suc, _*_, _-_, _≤_, _<_}
+-- Laws of the records linked by transaction: each transaction's numbers, its events and bytes, and where it begins.
+use Prim.Native.Nat.{ℕ, zero, suc, _-_, _≤_, _<_}
 use native.Mathlib.Omega.{arith}
 use native.Mathlib.Numerals.{add-one}
-use mathlib.Core.Path.{_≡_, refl, sym, ap, ap₂, _∙_, subst, fun-ext}
+use mathlib.Core.Path.{_≡_, refl, sym, ap, ap₂, _∙_, subst}
 use mathlib.Core.Logic.{_≢_}
 use mathlib.Core.Bool.{Bool, true, false}
-use mathlib.Core.List.{List, [], _∷_, _++_}
+use mathlib.Core.List.{List, [], _∷_, _++_, map}
 use lib.Dec.{eqb, ltb}
-use lib.ListN.{length, getD, set, take, drop, replicate}
+use lib.ListN.{length, getD, set, take, drop, replicate, length-map}
 use lib.Seq.{getD-set-same, getD-set-other}
 use borrow.Author.Tests.{ltb-true, ltb-false, lt-ltb, le-ltb, eq-eqb, ne-eqb}
 use Rattle.record.specs.declared.Event.{Event}
 use Rattle.record.specs.Record.{encoded}
-use Rattle.record.proofs.Laws.{length-encoded}
 use Rattle.trace.specs.Lists.{each, over, keep, firstOf, from}
 use Rattle.trace.proofs.Tests.{by, by-same}
-use Rattle.trace.proofs.Lists.{from-step, from-none, first-true, first-false, keep-true, keep-false}
+use Rattle.trace.proofs.Lists.{from-step, from-none, first-true, first-false, keep-true, keep-false, map-append}
 use Rattle.graph.specs.Transactions.{Labelled}
 use Rattle.graph.specs.Serial.{eventsOf, threadOf}
 use Rattle.graph.specs.Engine.{pastEnd, recordAt, held}
 use Rattle.graph.proofs.Held.{held-from, held-end}
 use Rattle.checker.specs.Report.{firstRecord}
-use Rattle.checker.specs.Writing.{bytesOf, bytesAt, numbersFrom, numbersOf, noRecord, firstFrom, Linked, chain}
-use Rattle.checker.proofs.Written.{over-front, each-each, length-each}
+use Rattle.checker.specs.Writing.{recordIn, Numbering, numbersFrom, numbersOf, noRecord, firstFrom, Linked, chain}
+use Rattle.checker.proofs.Written.{over-front, each-map, each-within}
 
 -- ---- The numbers of a transaction's records
 
--- numbers of records alone
-abbrev pub Low : List ℕ → Type 0
-Low l = (j : ℕ) → getD l j 0 < 1024
+numbering-cons : (n x : ℕ) (l : List ℕ) → x < n → Numbering n l → Numbering n (x ∷ l)
+numbering-cons n x l h low zero k = h
+numbering-cons n x l h low (suc j) k = low j (omega arith)
 
-low-cons : (x : ℕ) (l : List ℕ) → x < 1024 → Low l → Low (x ∷ l)
-low-cons x l h low zero = h
-low-cons x l h low (suc j) = low j
-
-low-append : (l m : List ℕ) → Low l → Low m → Low (l ++ m)
-low-append [] m p q = q
-low-append (x ∷ l) m p q = low-cons x (l ++ m) (p 0) (low-append l m (λ j. p (suc j)) q)
+numbering-append : (n : ℕ) (l m : List ℕ) → Numbering n l → Numbering n m → Numbering n (l ++ m)
+numbering-append n [] m p q = q
+numbering-append n (x ∷ l) m p q = numbering-cons n x (l ++ m) (p 0 (omega arith)) (numbering-append n l m (λ j h. p (suc j) (omega arith)) q)
 
 module _ (n : ℕ) (labels : List ℕ) (a : ℕ) where
   abbrev own : ℕ → Bool
@@ -79,19 +74,26 @@ module _ (n : ℕ) (labels : List ℕ) (a : ℕ) where
       (λ p r. none (first-miss i (omega arith) q ∙ p) (numbers-miss i (omega arith) q ∙ r))
       (λ f p b e r. some f (first-miss i (omega arith) q ∙ p) b e (numbers-miss i (omega arith) q ∙ r)))
 
-  -- each is the number of a record
-  numbers-from-below : n ≤ 1024 → (k i : ℕ) → n - i ≡ k → Low (numbersFrom n labels a i)
-  numbers-from-below m zero i h = subst Low (sym (numbers-end i (omega arith))) (λ j. omega arith)
-  numbers-from-below m (suc k) i h =
-      let rest : Low (numbersFrom n labels a (suc i)) = numbers-from-below m k (suc i) (omega arith) in
-      by-same (getD labels i 0) a
-      (λ q. subst Low (sym (numbers-hit i (omega arith) q)) (low-cons i (numbersFrom n labels a (suc i)) (omega arith) rest))
-      (λ q. subst Low (sym (numbers-miss i (omega arith) q)) rest)
+  -- the first, where there is one, is the number of a record
+  pub first-low : (f : ℕ) → f ≡ firstFrom n labels a 0 → f < noRecord → f < n
+  first-low f e h = met n 0 (omega arith)
+      (λ p r. absurd (omega (arith, e, p)))
+      (λ g p b q r. omega (arith, e, p))
 
-pub numbers-below : (n : ℕ) (labels : List ℕ) → n ≤ 1024 → (l : List ℕ) → Low (each (numbersOf n labels) l)
+  -- each is the number of a record
+  numbers-from-below : (k i : ℕ) → n - i ≡ k → Numbering n (numbersFrom n labels a i)
+  numbers-from-below zero i h = subst (Numbering n) (sym (numbers-end i (omega arith))) (λ j k. absurd (omega arith))
+  numbers-from-below (suc k) i h =
+      let rest : Numbering n (numbersFrom n labels a (suc i)) = numbers-from-below k (suc i) (omega arith) in
+      by-same (getD labels i 0) a
+      (λ q. subst (Numbering n) (sym (numbers-hit i (omega arith) q)) (numbering-cons n i (numbersFrom n labels a (suc i)) (omega arith) rest))
+      (λ q. subst (Numbering n) (sym (numbers-miss i (omega arith) q)) rest)
+
+pub numbers-below : (n : ℕ) (labels l : List ℕ) → Numbering n (each (numbersOf n labels) l)
 unfolding each
-numbers-below n labels m [] = λ j. omega arith
-numbers-below n labels m (a ∷ l) = low-append (numbersOf n labels a) (each (numbersOf n labels) l) (numbers-from-below n labels a m n 0 (omega arith)) (numbers-below n labels m l)
+numbers-below n labels [] = λ j k. absurd (omega arith)
+numbers-below n labels (a ∷ l) =
+    numbering-append n (numbersOf n labels a) (each (numbersOf n labels) l) (numbers-from-below n labels a n 0 (omega arith)) (numbers-below n labels l)
 
 -- they stand at the front of what they were written over
 pub lined-up : (n : ℕ) (labels order : List ℕ) (r : ℕ) (old sequence : List ℕ) → r ≡ length (each (numbersOf n labels) order)
@@ -178,11 +180,7 @@ module _ (n : ℕ) (labels firsts nexts : List ℕ) (most : n ≤ 1024) (l : Lin
   pub chain-is : (k : ℕ) → length (numbersOf n labels a) ≤ k → chain nexts k (getD firsts a noRecord) ≡ numbersOf n labels a
   chain-is k h = ap (chain nexts k) (l .first-is a) ∙ chain-from k 0 h
 
--- ---- Its bytes
-
--- the bytes of those from record i on
-unfoldable bytesFrom : ℕ → ℕ → List Event → List ℕ → ℕ → List ℕ
-bytesFrom i n all labels a = each encoded (eventsOf (drop i (held n all labels)) a)
+-- ---- Its events and its bytes
 
 events-hit : (x : Labelled) (xs : List Labelled) (a : ℕ) → eqb (x .transaction) a ≡ true → eventsOf (x ∷ xs) a ≡ x .event ∷ eventsOf xs a
 unfolding eventsOf
@@ -192,48 +190,40 @@ events-miss : (x : Labelled) (xs : List Labelled) (a : ℕ) → eqb (x .transact
 unfolding eventsOf
 events-miss x xs a h = rw (h, eventsOf)
 
-bytes-all : (n : ℕ) (all : List Event) (labels : List ℕ) (a : ℕ) → bytesFrom 0 n all labels a ≡ bytesOf n all labels a
-unfolding bytesFrom bytesOf
-bytes-all n all labels a = refl
+module _ (n : ℕ) (es : List Event) (labels : List ℕ) where
+  abbrev at : ℕ → Event
+  at i = getD es i pastEnd
 
-bytes-hit : (i n : ℕ) (all : List Event) (labels : List ℕ) (a : ℕ) → i < n → getD labels i 0 ≡ a
-    → bytesFrom i n all labels a ≡ encoded (getD all i pastEnd) ++ bytesFrom (suc i) n all labels a
-unfolding bytesFrom each
-bytes-hit i n all labels a h q =
-    ap (λ xs. each encoded (eventsOf xs a)) (held-from n i all labels h)
-    ∙ ap (each encoded) (events-hit (recordAt all labels i) (drop (suc i) (held n all labels)) a (eq-eqb (getD labels i 0) a q))
-
-bytes-miss : (i n : ℕ) (all : List Event) (labels : List ℕ) (a : ℕ) → i < n → getD labels i 0 ≢ a
-    → bytesFrom i n all labels a ≡ bytesFrom (suc i) n all labels a
-unfolding bytesFrom
-bytes-miss i n all labels a h q =
-    ap (λ xs. each encoded (eventsOf xs a)) (held-from n i all labels h)
-    ∙ ap (each encoded) (events-miss (recordAt all labels i) (drop (suc i) (held n all labels)) a (ne-eqb (getD labels i 0) a q))
-
-bytes-none : (i n : ℕ) (all : List Event) (labels : List ℕ) (a : ℕ) → n ≤ i → bytesFrom i n all labels a ≡ []
-unfolding bytesFrom each eventsOf
-bytes-none i n all labels a h =
-    ap (λ xs. each encoded (eventsOf xs a)) (held-end n i all labels h)
-
-module _ (n : ℕ) (all : List Event) (labels : List ℕ) where
-  bytes-from : (a k i : ℕ) → n - i ≡ k → bytesFrom i n all labels a ≡ each (bytesAt all) (numbersFrom n labels a i)
-  unfolding each
-  bytes-from a zero i h = bytes-none i n all labels a (omega arith) ∙ ap (each (bytesAt all)) (sym (numbers-end n labels a i (omega arith)))
-  bytes-from a (suc k) i h =
-      let rest : bytesFrom (suc i) n all labels a ≡ each (bytesAt all) (numbersFrom n labels a (suc i)) = bytes-from a k (suc i) (omega arith) in
+  events-from : (a k i : ℕ) → n - i ≡ k → eventsOf (drop i (held n es labels)) a ≡ map at (numbersFrom n labels a i)
+  unfolding eventsOf
+  events-from a zero i h = ap (λ xs. eventsOf xs a) (held-end n i es labels (omega arith)) ∙ ap (map at) (sym (numbers-end n labels a i (omega arith)))
+  events-from a (suc k) i h =
+      let rest : eventsOf (drop (suc i) (held n es labels)) a ≡ map at (numbersFrom n labels a (suc i)) = events-from a k (suc i) (omega arith) in
+      let next = ap (λ xs. eventsOf xs a) (held-from n i es labels (omega arith)) in
       by-same (getD labels i 0) a
-      (λ q. bytes-hit i n all labels a (omega arith) q ∙ ap (λ l. bytesAt all i ++ l) rest ∙ ap (each (bytesAt all)) (sym (numbers-hit n labels a i (omega arith) q)))
-      (λ q. bytes-miss i n all labels a (omega arith) q ∙ rest ∙ ap (each (bytesAt all)) (sym (numbers-miss n labels a i (omega arith) q)))
+      (λ q. next ∙ events-hit (recordAt es labels i) (drop (suc i) (held n es labels)) a (eq-eqb (getD labels i 0) a q)
+      ∙ ap (λ l. at i ∷ l) rest ∙ ap (map at) (sym (numbers-hit n labels a i (omega arith) q)))
+      (λ q. next ∙ events-miss (recordAt es labels i) (drop (suc i) (held n es labels)) a (ne-eqb (getD labels i 0) a q)
+      ∙ rest ∙ ap (map at) (sym (numbers-miss n labels a i (omega arith) q)))
 
-  -- the records of transactions, one after the other, by their numbers
-  pub bytes-by-number : (l : List ℕ) → each (bytesOf n all labels) l ≡ each (bytesAt all) (each (numbersOf n labels) l)
-  bytes-by-number l =
-      ap (λ f. each f l) (fun-ext (λ a. sym (bytes-all n all labels a) ∙ bytes-from a n 0 (omega arith)))
-      ∙ each-each (bytesAt all) (numbersOf n labels) l
+  -- the events of transactions, one after the other, by their numbers
+  events-by-number : (l : List ℕ) → each (eventsOf (held n es labels)) l ≡ map at (each (numbersOf n labels) l)
+  unfolding each
+  events-by-number [] = refl
+  events-by-number (a ∷ l) =
+      ap₂ _++_ (events-from a n 0 (omega arith)) (events-by-number l) ∙ sym (map-append at (numbersOf n labels a) (each (numbersOf n labels) l))
 
-  -- a record is 8 bytes
-  pub numbers-size : (l : List ℕ) → length (each (bytesOf n all labels) l) ≡ 8 * length (each (numbersOf n labels) l)
-  numbers-size l = ap length (bytes-by-number l) ∙ length-each (bytesAt all) 8 (λ i. length-encoded (getD all i pastEnd)) (each (numbersOf n labels) l)
+  -- as many as there are numbers
+  pub numbers-size : (l : List ℕ) → length (each (eventsOf (held n es labels)) l) ≡ length (each (numbersOf n labels) l)
+  numbers-size l = ap length (events-by-number l) ∙ length-map (each (numbersOf n labels) l) at
+
+  -- where the bytes of each record are those of its event, their bytes
+  pub bytes-by-number : (input : List ℕ) → ((i : ℕ) → i < n → recordIn input i ≡ encoded (at i)) → (l : List ℕ)
+      → each (recordIn input) (each (numbersOf n labels) l) ≡ each encoded (each (eventsOf (held n es labels)) l)
+  bytes-by-number input same l =
+      each-within (recordIn input) (λ i. encoded (at i)) n (each (numbersOf n labels) l) (numbers-below n labels l) same
+      ∙ sym (each-map encoded at (each (numbersOf n labels) l))
+      ∙ ap (each encoded) (sym (events-by-number l))
 
 -- ---- Where a transaction begins
 

@@ -1,21 +1,25 @@
--- A recording that is not refused: its records have no fault of form, and its events are a possible history.
-use Prim.Native.Nat.{ℕ, zero, suc, _-_, _*_, _/_}
+-- A recording that is not refused: its records have no fault of form, so that their bytes are those of their events, which are a possible history.
+use Prim.Native.Nat.{ℕ, zero, suc, _-_, _*_, _/_, _<_}
 use native.Mathlib.Omega.{arith}
 use mathlib.Core.Path.{_≡_, refl, sym, ap, _∙_, subst}
 use mathlib.Core.List.{List, [], _∷_, map}
-use lib.ListN.{length, drop, length-drop}
+use lib.ListN.{length, getD, drop, length-drop}
 use lib.Seq.{length-take-le}
 use lib.Dec.{T, eqb, eqb-refl}
 use Rattle.record.specs.Faults.{firstFault}
 use Rattle.record.specs.Record as Record
-use Rattle.record.specs.Record.{event}
+use Rattle.record.specs.Record.{event, encoded}
+use Rattle.record.proofs.Laws.{decoded-good, encode-decoded}
 use Rattle.replay.specs.Machine.{fresh, faultOf, next, possible}
 use Rattle.trace.proofs.Lists.{Every}
 use Rattle.trace.proofs.Tests.{and-both}
 use Rattle.checker.specs.Refusals.{records, recordsOf, Run, start, onwards, recordChecks, firstRefusal, refusal, events}
 use Rattle.checker.proofs.Refusing.{size-passed, sizes-passed, refusal-on, refusal-at}
 use Rattle.checker.proofs.Refusing.{sized as sizes-of}
+use Rattle.graph.specs.Engine.{pastEnd}
+use Rattle.checker.specs.Writing.{recordIn}
 use Rattle.checker.proofs.Looked.{parts-passed}
+use Rattle.checker.proofs.Scanned.{bytes-size, every-record, event-at}
 
 -- ---- the records, one after the other
 
@@ -54,3 +58,10 @@ sized (suc n) bs h = (length-take-le 8 bs (omega arith), sized n (drop 8 bs) (le
 
 pub records-sized : (input out work : List ℕ) → refusal input out work .number ≡ 0 → Every (λ r. length r ≡ 8) (recordsOf input)
 records-sized input out work e = sized (length input / 8) input (omega (arith, sizes-of input out work (sizes-passed input out work e) .whole))
+
+-- and its bytes are those of its event
+pub record-bytes : (input out work : List ℕ) → refusal input out work .number ≡ 0 → (i : ℕ) → i < length input / 8 → recordIn input i ≡ encoded (getD (events input) i pastEnd)
+record-bytes input out work e i h =
+    let bs : List ℕ = recordIn input i in
+    let good = decoded-good bs (bytes-size input i h) (every-record InForm (length input / 8) input i h (passed input out work e .1)) in
+    sym (ap encoded (event-at input i pastEnd h) ∙ encode-decoded bs (event bs) good)

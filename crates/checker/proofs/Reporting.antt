@@ -1,7 +1,7 @@
 -- Laws of the whole promise: a recording that is refused, and one that is not.
 use Prim.Native.Nat.{ℕ, zero, suc, _-_, _/_, _≤_}
 use native.Mathlib.Omega.{arith}
-use mathlib.Core.Path.{_≡_, refl, sym, ap, ap₂, _∙_, subst}
+use mathlib.Core.Path.{_≡_, refl, sym, ap, ap₂, _∙_}
 use mathlib.Core.Logic.{_≢_}
 use mathlib.Core.Bool.{true, false, _&&_}
 use mathlib.Core.List.{List, [], _∷_, map}
@@ -13,7 +13,7 @@ use Rattle.record.specs.Faults.{firstFault}
 use Rattle.record.specs.Record.{event}
 use Rattle.trace.specs.Lists.{each, over}
 use Rattle.trace.proofs.Tests.{by}
-use Rattle.graph.specs.Transactions.{Tally, none-yet, begins, full, tallied, tallyFrom, transactions, labelled}
+use Rattle.graph.specs.Transactions.{Tally, none-yet, begins, full, tallied, tallyFrom, transactions}
 use Rattle.graph.specs.declared.Arranged.{Arranged}
 use Rattle.graph.specs.Violation.{shortest}
 use Rattle.graph.specs.Arranged.{workSize, named, found, fits, Arrangement, arranged}
@@ -25,19 +25,21 @@ use Rattle.checker.specs.declared.Refusal.{Refusal}
 use Rattle.checker.specs.Verdict.{Numbers, numbers, verdict}
 use Rattle.checker.specs.Refusals.{sizeChecks, Run, start, onwards, recordChecks, firstRefusal, recordsOf, refusal, events}
 use Rattle.checker.specs.Judged.{Judged, judged}
-use Rattle.checker.specs.declared.Examined.{Examined}
-use Rattle.checker.specs.Examined.{Examination, examined, asFault}
+use Rattle.checker.specs.declared.examining.Looked.{Looked}
+use Rattle.checker.specs.Examined.{soundEvents, asFault}
+use Rattle.checker.specs.Seeing.{SawAll}
 use Rattle.checker.specs.Writing.{lineOf}
-use Rattle.checker.specs.Concluded.{Ready, Concluded, namedIn, Told}
+use Rattle.checker.specs.Concluded.{Whole, Ready, Concluded, namedIn, Told}
 use Rattle.checker.specs.Report.{reported}
 use Rattle.checker.specs.Report.{lines as lines-of}
 use Rattle.checker.proofs.Refusing.{Sized, sized, size-passed, refusal-on, refusal-at}
 use Rattle.checker.proofs.Looked.{parts-passed}
 use Rattle.checker.proofs.Written.{over-front}
-use Rattle.checker.proofs.Ending.{named-serial, named-cycle, lines-named, labels-few}
-use Rattle.checker.proofs.Scanned.{events-size}
-use Rattle.checker.proofs.Finding.{input-passed, input-sized, Found, found-refused}
-use Rattle.checker.proofs.Finding.{found as found-in}
+use Rattle.checker.proofs.Passed.{record-bytes}
+use Rattle.checker.proofs.Taking.{events-orderly}
+use Rattle.checker.proofs.Ending.{named-serial, named-cycle, lines-named, whole-few}
+use Rattle.checker.proofs.Scanned.{labelsOf}
+use Rattle.checker.proofs.Finding.{input-passed, input-sized, sound-events, events-held}
 
 -- ---- A recording that is refused, and one that isn't
 
@@ -70,10 +72,10 @@ module _ (input out work : List ℕ) where
   reported-refused old (suc n) k h some = sym (reported-at old n k h)
 
   -- nothing is named
-  pub told-refused : (r : Refusal) (all : List Event) (labels order : List ℕ) → refusal input out work ≡ record { number = r .number; place = r .«record» } → r .number ≢ 0
-      → length order ≡ 512 → Told input out work (Refused r) all labels order
+  pub told-refused : (r : Refusal) (labels order : List ℕ) → refusal input out work ≡ record { number = r .number; place = r .«record» } → r .number ≢ 0
+      → length order ≡ 512 → Told input out work (Refused r) labels order
   unfolding each over
-  told-refused r all labels order h some long =
+  told-refused r labels order h some long =
       record {
         lines-are = λ old. reported-refused old (r .number) (r .«record») h some;
         order-size = long;
@@ -82,9 +84,9 @@ module _ (input out work : List ℕ) where
         few = λ n. absurd (omega arith);
       }
 
-  pub told-none : (r : Answer) (all : List Event) (labels order old : List ℕ) → Told input out work r all labels order → namedIn r ≡ 0 → old ≡ reported input out work old
+  pub told-none : (r : Answer) (labels order old : List ℕ) → Told input out work r labels order → namedIn r ≡ 0 → old ≡ reported input out work old
   unfolding each over
-  told-none r all labels order old t h = ap (λ n. over (each (lineOf (length input / 8) all labels) (take n order)) old) (sym h) ∙ t .lines-are old
+  told-none r labels order old t h = ap (λ n. over (each (lineOf (length input / 8) (events input) labels) (take n order)) old) (sym h) ∙ t .lines-are old
 
   judged-passed : (a : Numbers) (o w : List ℕ) → refusal input out work .number ≡ 0 → a ≡ verdict (events input) .answer
       → o ≡ over (verdict (events input) .written) out → w ≡ over (replicate workSize 0) work → left a o w ≡ judged input out work
@@ -143,69 +145,69 @@ over-size new old h =
 
 -- ---- From a recording without a refusal to its answer
 
-module _ (input out work : List ℕ) (passed : firstFault (sizeChecks input out work) ≡ 0) (old labels : List ℕ) (e : Examined)
-    (f : _≡_ {A = Examination} (record { refusal = asFault (e .refusal); all = e .all; labels = labels }) (examined input old)) where
+module _ (input out work : List ℕ) (passed : firstFault (sizeChecks input out work) ≡ 0) (old labels : List ℕ) (l : Looked) (f : SawAll input old l labels) where
   -- refused at a record
-  pub found-refusal : refusal input out work ≡ asFault (e .refusal)
-  found-refusal =
-      size-passed input out work passed ∙ sym (input-passed input (input-sized input out work passed)) ∙ found-refused input old (asFault (e .refusal)) (e .all) labels f
+  pub found-refusal : refusal input out work ≡ asFault (l .refusal)
+  found-refusal = size-passed input out work passed ∙ sym (input-passed input (input-sized input out work passed)) ∙ sym (f .refusal-is)
 
-  module _ (none : e .refusal .number ≡ 0) where
-    pub all-found : Found input (e .all) labels
-    all-found = found-in input old (asFault (e .refusal)) (e .all) labels f none
+  module _ (none : l .refusal .number ≡ 0) where
+    abbrev es : List Event
+    es = events input
 
     no-refusal : refusal input out work .number ≡ 0
     no-refusal = ap (λ x. x .number) found-refusal ∙ none
 
-    few : transactions (events input) ≤ 512
-    few = transactions-few input (all-found .fine)
+    all-sound : soundEvents input ≡ es
+    all-sound = sound-events input (ap (λ x. x .number) (sym (f .refusal-is)) ∙ none)
 
-    -- what was arranged, over any events that are those
-    module _ (es : List Event) (is : es ≡ events input) (a : Arranged) (order o w : List ℕ) (long : length order ≡ 512)
+    pub whole : Whole input labels (length input / 8) (l .transactions)
+    whole =
+        let s : Sized input out work = sized input out work passed in
+        record {
+          size = omega (arith, s .whole);
+          most = omega (arith, s .most);
+          labelled-are = events-held input old labels (f .labels-are ∙ ap (λ m. over (labelsOf m) old) all-sound);
+          counted = f .count-is ∙ ap transactions all-sound;
+          few = transactions-few input (ap (λ x. x .number) (sym (size-passed input out work passed)) ∙ no-refusal);
+          in-order = events-orderly input out work no-refusal;
+        }
+
+    -- what was arranged
+    module _ (a : Arranged) (order o w : List ℕ) (long : length order ≡ 512)
         (g : _≡_ {A = Arrangement} (record { answer = a; order = o; work = w }) (arranged es order work)) where
-      at-most : transactions es ≤ 512
-      at-most = subst (λ l. transactions l ≤ 512) (sym is) few
-
-      whole : _≡_ {A = Arrangement} (record { answer = a; order = o; work = w })
+      arranged-whole : _≡_ {A = Arrangement} (record { answer = a; order = o; work = w })
           (record { answer = found es (shortest es); order = over (named es (shortest es)) order; work = over (replicate workSize 0) work })
-      whole = g ∙ arranged-fit es order work (fit es work at-most (sized input out work passed .work-room))
+      arranged-whole = g ∙ arranged-fit es order work (fit es work (whole .few) (sized input out work passed .work-room))
 
       order-now : o ≡ over (named es (shortest es)) order
-      order-now = ap (λ x. x .order) whole
+      order-now = ap (λ x. x .order) arranged-whole
 
       order-long : length o ≡ 512
       order-long =
-          let short : length (named es (shortest es)) ≤ length order = omega (arith, named-most es, at-most, long) in
+          let short : length (named es (shortest es)) ≤ length order = omega (arith, named-most es, whole .few, long) in
           ap length order-now ∙ over-size (named es (shortest es)) order short ∙ long
 
-      module _ (same : es ≡ take (length input / 8) (e .all)) where
-        pub ready : Ready a es (e .all) labels (length input / 8) o out
-        ready =
-            let s : Sized input out work = sized input out work passed in
-            record {
-              size = ap length is ∙ events-size input;
-              most = omega (arith, s .most);
-              labelled-are = all-found .labelled-are ∙ ap labelled (sym is);
-              few = at-most;
-              found-is = ap (λ x. x .answer) whole;
-              order-size = omega (arith, order-long);
-              order-is = ap (take (length (named es (shortest es)))) order-now ∙ over-front (named es (shortest es)) order;
-              out-room = omega (arith, s .out-room);
-            }
+      pub ready : Ready a input labels (length input / 8) o out
+      ready = record {
+        whole = record { size = whole .size; most = whole .most; labelled-are = whole .labelled-are; counted = refl; few = whole .few; in-order = whole .in-order };
+        bytes-are = record-bytes input out work no-refusal;
+        found-is = ap (λ x. x .answer) arranged-whole;
+        order-size = omega (arith, order-long);
+        order-is = ap (take (length (named es (shortest es)))) order-now ∙ over-front (named es (shortest es)) order;
+        out-room = sized input out work passed .out-room;
+      }
 
-        pub judged-whole : (out′ : List ℕ) (r : Answer) → Concluded es out out′ r → left (numbers r) out′ w ≡ judged input out work
-        judged-whole out′ r c =
-            judged-passed input out work (numbers r) out′ w no-refusal (c .answer ∙ ap (λ l. verdict l .answer) is) (c .written ∙ ap (λ l. over (verdict l .written) out) is)
-            (ap (λ x. x .work) whole)
+      pub judged-whole : (out′ : List ℕ) (r : Answer) → Concluded es out out′ r → left (numbers r) out′ w ≡ judged input out work
+      judged-whole out′ r c = judged-passed input out work (numbers r) out′ w no-refusal (c .answer) (c .written) (ap (λ x. x .work) arranged-whole)
 
-        pub told-whole : (out′ : List ℕ) (r : Answer) → Concluded es out out′ r → Told input out work r (e .all) labels o
-        told-whole out′ r c =
-            record {
-              lines-are = λ old.
-                  ap (λ l. over l old) (lines-named a es (e .all) labels (length input / 8) o out ready (namedIn r) (c .all-named) ∙ ap lines-of is)
-                  ∙ reported-passed input out work old no-refusal;
-              order-size = order-long;
-              named-few = omega (arith, c .all-named, named-most es, at-most);
-              most = λ some. ready .most;
-              few = λ some. labels-few a es (e .all) labels (length input / 8) o out ready same;
-            }
+      pub told-whole : (out′ : List ℕ) (r : Answer) → Concluded es out out′ r → Told input out work r labels o
+      told-whole out′ r c =
+          record {
+            lines-are = λ old.
+                ap (λ m. over m old) (lines-named a input labels (length input / 8) o out ready (namedIn r) (c .all-named))
+                ∙ reported-passed input out work old no-refusal;
+            order-size = order-long;
+            named-few = omega (arith, c .all-named, named-most es, whole .few);
+            most = λ some. whole .most;
+            few = λ some. whole-few input labels (length input / 8) (l .transactions) whole;
+          }

@@ -12,6 +12,7 @@ use Rattle.record.specs.Record.{event}
 use Rattle.replay.specs.declared.State.{State}
 use Rattle.replay.specs.Machine.{fresh}
 use Rattle.trace.specs.Lists.{over}
+use Rattle.trace.proofs.Lists.{Every}
 use Rattle.graph.specs.Transactions.{Tally, none-yet, Labelled, belongs, tallied, tallyFrom, labelledFrom, labelled}
 use Rattle.graph.specs.Engine.{pastEnd}
 use Rattle.graph.proofs.Numbers.{labelled-take}
@@ -67,14 +68,24 @@ pub events-size : (input : List ℕ) → length (events input) ≡ length input 
 unfolding events
 events-size input = length-map (recordsOf input) event ∙ records-size (length input / 8) input
 
+record-shift : (bs : List ℕ) (i : ℕ) → recordIn (drop 8 bs) i ≡ recordIn bs (suc i)
+record-shift bs i =
+    let m : 8 + 8 * i ≡ 8 * suc i = omega arith in
+    ap (take 8) (drop-drop (8 * i) 8 bs ∙ ap (λ k. drop k bs) m)
+
+-- what holds of each record holds of record i
+pub every-record : (P : List ℕ → Type 0) (n : ℕ) (bs : List ℕ) (i : ℕ) → i < n → Every P (records n bs) → P (recordIn bs i)
+unfolding records
+every-record P zero bs i h e = absurd (omega arith)
+every-record P (suc n) bs zero h e = e .0
+every-record P (suc n) bs (suc i) h e = subst P (record-shift bs i) (every-record P n (drop 8 bs) i (omega arith) (e .1))
+
 -- the event of record i
 record-at : (n : ℕ) (bs : List ℕ) (i : ℕ) (d : Event) → i < n → getD (map event (records n bs)) i d ≡ event (recordIn bs i)
 unfolding records
 record-at zero bs i d h = absurd (omega arith)
 record-at (suc n) bs zero d h = refl
-record-at (suc n) bs (suc i) d h =
-    let m : 8 + 8 * i ≡ 8 * suc i = omega arith in
-    record-at n (drop 8 bs) i d (omega arith) ∙ ap (λ l. event (take 8 l)) (drop-drop (8 * i) 8 bs ∙ ap (λ k. drop k bs) m)
+record-at (suc n) bs (suc i) d h = record-at n (drop 8 bs) i d (omega arith) ∙ ap event (record-shift bs i)
 
 pub event-at : (input : List ℕ) (i : ℕ) (d : Event) → i < length input / 8 → getD (events input) i d ≡ event (recordIn input i)
 unfolding events

@@ -30,7 +30,9 @@ use Rattle.thin.proofs.Searching.{found-from, found-ready}
 use Rattle.thin.proofs.Walking.{Walking, walking-none, walking-found, walking-noted, label-in, walking-hit, walking-more}
 use Rattle.checker.specs.Refusals.{events}
 use Rattle.checker.specs.Examined.{noEvent}
-use Rattle.checker.specs.Seeking.{Whole, Sought}
+use Rattle.checker.specs.Concluded.{Whole}
+use Rattle.checker.specs.Seeking.{Sought}
+use Rattle.checker.proofs.Ending.{made-events}
 use Rattle.checker.proofs.Scanned.{part-is, events-size, event-at}
 
 module _ (input labels : List ℕ) (count n : ℕ) (h : Whole input labels count n) where
@@ -105,11 +107,7 @@ module _ (input labels : List ℕ) (count n : ℕ) (h : Whole input labels count
 
       -- a cycle: the array of events is made
       pub named-cycle : (all : List Event) → all ≡ over (take count es) (replicate 1024 noEvent) → finished (take count all) prefix order u ≡ arranged es order before
-      unfolding over
-      named-cycle all is =
-          let whole : take count es ≡ es = take-all count es (omega (arith, size)) in
-          let same : take count all ≡ es = ap (take count) (is ∙ ap (λ l. l ++ drop (length l) (replicate 1024 noEvent)) whole) ∙ take-at es _ count size in
-          ap (λ l. finished l prefix order u) same ∙ finished-right es (h .few) prefix before u ready long order
+      named-cycle all is = ap (λ l. finished l prefix order u) (made-events input labels count n h all (replicate 1024 noEvent) is) ∙ finished-right es (h .few) prefix before u ready long order
 
       -- no cycle: the threads were noted
       pub named-order : prefix ≡ 0 → (l v : List ℕ) → l ≡ orderedBy noted n order u → v ≡ cleared u

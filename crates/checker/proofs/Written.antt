@@ -4,7 +4,7 @@ use native.Mathlib.Omega.{arith}
 use native.Mathlib.Nat.{add-zero, zero-add, add-comm, mul-suc, mul-zero}
 use native.Mathlib.Numerals.{add-one}
 use mathlib.Core.Path.{_≡_, refl, sym, ap, ap₂, _∙_, subst}
-use mathlib.Core.List.{List, [], _∷_, _++_, append-assoc, append-nil}
+use mathlib.Core.List.{List, [], _∷_, _++_, map, append-assoc, append-nil}
 use lib.ListN.{length, getD, set, take, drop, length-append, length-drop, take-append-drop, drop-of-length-le}
 use lib.Seq.{set-split, take-all, take-append-seam, drop-drop, drop-cons, length-take-le, take-at, drop-append-add, sets-eq, paste, paste-suc}
 use borrow.Rule.Slice.PartMut.{putMid}
@@ -16,7 +16,7 @@ use Rattle.trace.proofs.Lists.{each-append}
 use Rattle.graph.specs.Serial.{threadOf}
 use Rattle.graph.specs.Engine.{held}
 use Rattle.checker.specs.Report.{firstRecord}
-use Rattle.checker.specs.Writing.{writtenAt, lineOf}
+use Rattle.checker.specs.Writing.{writtenAt, lineOf, Numbering}
 
 -- ---- Written from a place on
 
@@ -112,26 +112,33 @@ module _ (out₀ : List ℕ) (n : ℕ) (whole : List ℕ) where
   pub left-made : (out : List ℕ) (end : ℕ) → Left out₀ n whole out end [] → out ≡ writtenAt out₀ n whole
   left-made out end l = sym (written-nothing out end) ∙ l .made
 
--- an event that was written into the rest of an output, from place n on
-module _ (e : Event) (out : List ℕ) (n : ℕ) (room : n + length (encoded e) ≤ length out) where
-  part-whole : take (length out - n) (drop n out) ≡ drop n out
-  part-whole = take-all (length out - n) (drop n out) (omega (arith, length-drop n out))
+-- ---- Written into the rest of an output, from place n on
 
-  part-room : 8 ≤ length (drop n out)
-  part-room = omega (arith, length-drop n out, length-encoded e, room)
+rest-whole : (out : List ℕ) (n : ℕ) → n ≤ length out → take (length out - n) (drop n out) ≡ drop n out
+rest-whole out n h = take-all (length out - n) (drop n out) (omega (arith, length-drop n out))
+
+pub written-rest : (new out : List ℕ) (n : ℕ) → n ≤ length out → (part : List ℕ) → part ≡ over new (take (length out - n) (drop n out))
+    → putMid n (length out - n) out part ≡ writtenAt out n new
+unfolding writtenAt over
+written-rest new out n h part p =
+    let fits : length (drop n out) ≤ length out - n = omega (arith, length-drop n out) in
+    let none : drop (length out - n) (drop n out) ≡ [] = drop-of-length-le (drop n out) fits in
+    let q : part ≡ new ++ drop (n + length new) out = p ∙ ap (over new) (rest-whole out n h) ∙ ap (λ x. new ++ x) (drop-drop (length new) n out) in
+    simp (q, none, append-nil)
+
+-- an event
+module _ (e : Event) (out : List ℕ) (n : ℕ) (room : n + length (encoded e) ≤ length out) where
+  rest-room : 8 ≤ length (take (length out - n) (drop n out))
+  rest-room = omega (arith, ap length (rest-whole out n (omega arith)), length-drop n out, length-encoded e, room)
 
   pub written-size : encodedSize (take (length out - n) (drop n out)) ≡ length (encoded e)
-  written-size = ap encodedSize part-whole ∙ size-over (drop n out) part-room ∙ sym (length-encoded e)
+  written-size = size-over (take (length out - n) (drop n out)) rest-room ∙ sym (length-encoded e)
 
   pub written-part : (part : List ℕ) → part ≡ encodedOver e (take (length out - n) (drop n out)) → putMid n (length out - n) out part ≡ writtenAt out n (encoded e)
-  unfolding writtenAt
+  unfolding over
   written-part part p =
-      let fits : length (drop n out) ≤ length out - n = omega (arith, length-drop n out) in
-      let none : drop (length out - n) (drop n out) ≡ [] = drop-of-length-le (drop n out) fits in
-      let q : part ≡ encoded e ++ drop (n + length (encoded e)) out =
-      p ∙ ap (encodedOver e) part-whole ∙ encoded-over e (drop n out) part-room
-      ∙ ap (λ x. encoded e ++ x) (drop-drop 8 n out ∙ ap (λ m. drop (n + m) out) (sym (length-encoded e))) in
-      simp (q, none, append-nil)
+      let rest : List ℕ = take (length out - n) (drop n out) in
+      written-rest (encoded e) out n (omega arith) part (p ∙ encoded-over e rest rest-room ∙ ap (λ k. encoded e ++ drop k rest) (sym (length-encoded e)))
 
 -- numbers stored one after the other
 pub one-store : (l : List ℕ) (i a : ℕ) → i < length l → set l i a ≡ writtenAt l i (a ∷ [])
@@ -198,13 +205,28 @@ unfolding each
 each-each f g [] = refl
 each-each f g (x ∷ l) = ap (λ r. each f (g x) ++ r) (each-each f g l) ∙ sym (each-append f (g x) (each g l))
 
-pub length-each : (f : ℕ → List ℕ) (w : ℕ) → ((a : ℕ) → length (f a) ≡ w) → (l : List ℕ) → length (each f l) ≡ w * length l
+pub each-map : {A B C : Type 0} (f : B → List C) (g : A → B) (l : List A) → each f (map g l) ≡ each (λ x. f (g x)) l
 unfolding each
-length-each f w h [] = sym (mul-zero w)
-length-each f w h (a ∷ l) =
+each-map f g [] = refl
+each-map f g (x ∷ l) = ap (λ r. f (g x) ++ r) (each-map f g l)
+
+-- the same of each of n records
+pub each-within : (f g : ℕ → List ℕ) (n : ℕ) (l : List ℕ) → Numbering n l → ((i : ℕ) → i < n → f i ≡ g i) → each f l ≡ each g l
+unfolding each
+each-within f g n [] low same = refl
+each-within f g n (x ∷ l) low same = ap₂ _++_ (same x (low 0 (omega arith))) (each-within f g n l (λ k h. low (suc k) (omega arith)) same)
+
+-- each has w numbers
+pub length-each-at : (f : ℕ → List ℕ) (w : ℕ) (l : List ℕ) → ((k : ℕ) → k < length l → length (f (getD l k 0)) ≡ w) → length (each f l) ≡ w * length l
+unfolding each
+length-each-at f w [] h = sym (mul-zero w)
+length-each-at f w (a ∷ l) h =
     let p : length (f a ++ each f l) ≡ length (f a) + length (each f l) = length-append (f a) (each f l) in
-    let q : length (each f l) ≡ w * length l = length-each f w h l in
-    p ∙ ap₂ _+_ (h a) q ∙ add-comm w (w * length l) ∙ sym (mul-suc w (length l))
+    let q : length (each f l) ≡ w * length l = length-each-at f w l (λ k m. h (suc k) (omega arith)) in
+    p ∙ ap₂ _+_ (h 0 (omega arith)) q ∙ add-comm w (w * length l) ∙ sym (mul-suc w (length l))
+
+pub length-each : (f : ℕ → List ℕ) (w : ℕ) → ((a : ℕ) → length (f a) ≡ w) → (l : List ℕ) → length (each f l) ≡ w * length l
+length-each f w h l = length-each-at f w l (λ k m. h (getD l k 0))
 
 pub length-line : (n : ℕ) (all : List Event) (labels : List ℕ) (a : ℕ) → length (lineOf n all labels a) ≡ 3
 unfolding lineOf

@@ -14,15 +14,6 @@ use Rattle.thin.specs.Orderly.{orderly}
 use Rattle.thin.specs.Engine.{Found}
 use Rattle.checker.specs.Refusals.{events}
 
--- What is known of a recording that isn't refused: how many records it has, their labels, and how many transactions; and that its events are orderly
-pub record Whole (input labels : List ℕ) (count n : ℕ) : Type 0 where
-  pub size : length input ≡ recordSize * count
-  pub most : count ≤ 1024
-  pub labelled-are : held count (events input) labels ≡ labelled (events input)
-  pub counted : n ≡ transactions (events input)
-  pub few : transactions (events input) ≤ transactionLimit
-  pub in-order : T (orderly (events input))
-
 -- What the walk answers and leaves: the shortest prefix with a cycle and the rows; and the thread of each transaction, where there is no cycle
 pub record Sought (es : List Event) (before : List ℕ) (prefix : ℕ) (work threads : List ℕ) : Type 0 where
   pub found : Found es before prefix work

@@ -7,33 +7,29 @@ use mathlib.Core.List.{List, [], _∷_, _++_}
 use lib.Dec.{eqb, ltb}
 use lib.ListN.{length, getD, take, drop}
 use Rattle.record.specs.declared.Event.{Event}
-use Rattle.record.specs.Record.{recordSize, encoded}
-use Rattle.trace.specs.Lists.{each, keep, firstOf, from}
-use Rattle.graph.specs.Engine.{pastEnd, held}
-use Rattle.graph.specs.Serial.{eventsOf, threadOf}
+use Rattle.record.specs.Record.{recordSize}
+use Rattle.trace.specs.Lists.{keep, firstOf, from}
+use Rattle.graph.specs.Engine.{held}
+use Rattle.graph.specs.Serial.{threadOf}
 use Rattle.checker.specs.Report.{firstRecord}
 
 -- numbers written into a list from place n on
 unfoldable pub writtenAt : List ℕ → ℕ → List ℕ → List ℕ
 writtenAt l n new = take n l ++ (new ++ drop (n + length new) l)
 
--- the bytes of the records of transaction a, among the first n that arrays hold
-unfoldable pub bytesOf : ℕ → List Event → List ℕ → ℕ → List ℕ
-bytesOf n all labels a = each encoded (eventsOf (held n all labels) a)
-
--- a transaction's line, among the first n records that arrays hold: its number, its thread, its first record
-unfoldable pub lineOf : ℕ → List Event → List ℕ → ℕ → List ℕ
-lineOf n all labels a = a ∷ threadOf (held n all labels) a ∷ firstRecord 0 (held n all labels) a ∷ []
-
--- ---- The records by number, linked
-
 -- the bytes of record i of a recording
 abbrev pub recordIn : List ℕ → ℕ → List ℕ
 recordIn input i = take recordSize (drop (recordSize * i) input)
 
--- the bytes of record i
-abbrev pub bytesAt : List Event → ℕ → List ℕ
-bytesAt all i = encoded (getD all i pastEnd)
+-- a transaction's line, among the first n events with their labels: its number, its thread, its first record
+unfoldable pub lineOf : ℕ → List Event → List ℕ → ℕ → List ℕ
+lineOf n es labels a = a ∷ threadOf (held n es labels) a ∷ firstRecord 0 (held n es labels) a ∷ []
+
+-- ---- The records by number, linked
+
+-- every number of a list is that of one of n records
+abbrev pub Numbering : ℕ → List ℕ → Type 0
+Numbering n l = (k : ℕ) → k < length l → getD l k 0 < n
 
 -- the numbers of the records of transaction a from record i on, of the first n
 unfoldable pub numbersFrom : ℕ → List ℕ → ℕ → ℕ → List ℕ

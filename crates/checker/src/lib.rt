@@ -4,18 +4,18 @@ mod examining;
 mod seeking;
 mod writing;
 
-use concluding::Judgement;
 use graph::Arranged;
 use record::Event;
 ghost use mathlib.Core.Path.{_≡_};
-ghost use lib.ListN.{length, take};
+ghost use Prim.Native.Nat.{_≤_};
+ghost use lib.ListN.{length};
 ghost use Rattle.record.specs.Faults.{firstFault};
 ghost use Rattle.graph.specs.Arranged.{Arrangement, arranged};
-ghost use Rattle.checker.specs.Refusals.{sizeChecks};
+ghost use Rattle.checker.specs.Refusals.{sizeChecks, events};
 ghost use Rattle.checker.specs.Verdict.{numbers};
 ghost use Rattle.checker.specs.Judged.{Judged, judged};
 ghost use Rattle.checker.specs.Report.{reported};
-ghost use Rattle.checker.specs.Concluded.{Told};
+ghost use Rattle.checker.specs.Concluded.{Whole, Told};
 ghost use Rattle.checker.specs.Examined.{inputChecks, Examination, examined, asFault};
 
 // What finds the cycle or the order: the plain engine, which compares each record with all before it, or the second, which asks who touched the same
@@ -91,20 +91,26 @@ fn size_fault(input: &[u8], out: &[u8], work: &[u64]) -> u8
     0
 }
 
-// Arranges the first count of the events, by either engine: the one place where an engine is asked.
+// Arranges the events of a recording that isn't refused, by either engine: the one place where an engine is asked.
 fn arrange(
-    all: [Event; 1024],
+    input: &[u8],
+    labels: &[u16; 1024],
     count: usize,
+    transactions: u16,
     order: &mut [u16; 512],
     work: &mut [u64],
     engine: Engine,
 ) -> Arranged
+    requires { ⌜ Whole (now input) (now labels) count transactions × (4096 ≤ length (now work)) ⌝ }
     ensures { λ r. ⌜ _≡_ {A = Arrangement} (record { answer = r; order = now (order .exit); work = now (work .exit) })
-        (arranged (take count all) (now (order .entry)) (now (work .entry))) ⌝ }
+        (arranged (events (now (input .entry))) (now (order .entry)) (now (work .entry))) ⌝ }
 {
     match engine {
-        Engine::Plain => graph::arrange(all, count, order, work),
-        Engine::Thin => graph::arrange(all, count, order, work),
+        Engine::Plain => {
+            let all = examining::events_of(input, count);
+            graph::arrange(all, count, order, work)
+        }
+        Engine::Thin => seeking::arrange(input, labels, count, transactions, order, work),
     }
 }
 
@@ -116,29 +122,25 @@ fn judge_with(
     labels: &mut [u16; 1024],
     order: &mut [u16; 512],
     engine: Engine,
-) -> Judgement
+) -> Answer
     requires { ⌜ length (now order) ≡ 512 ⌝ }
-    ensures { λ r. ⌜ (_≡_ {A = Judged} (record { answer = numbers (r .answer); out = now (out .exit); work = now (work .exit) })
+    ensures { λ r. ⌜ (_≡_ {A = Judged} (record { answer = numbers r; out = now (out .exit); work = now (work .exit) })
         (judged (now (input .entry)) (now (out .entry)) (now (work .entry))))
-        × Told (now (input .entry)) (now (out .entry)) (now (work .entry)) (r .answer) (r .all) (now (labels .exit)) (now (order .exit)) ⌝ }
+        × Told (now (input .entry)) (now (out .entry)) (now (work .entry)) r (now (labels .exit)) (now (order .exit)) ⌝ }
 {
     let number = size_fault(input, &*out, &*work);
     if number != 0 {
-        let all = examining::no_events();
-        let answer = Answer::Refused(Refusal { number, record: 0 });
-        return Judgement { answer, all };
+        return Answer::Refused(Refusal { number, record: 0 });
     }
-    let examined = examine(input, labels);
-    let all = examined.all;
-    let refusal = examined.refusal;
+    let looked = examining::look_through(input, labels);
+    let refusal = looked.refusal;
     if refusal.number != 0 {
-        let answer = Answer::Refused(refusal);
-        return Judgement { answer, all };
+        return Answer::Refused(refusal);
     }
     let count = input.len() / 8;
-    let found = arrange(all, count, order, work, engine);
-    let answer = concluding::conclude(found, all, &*labels, count, &*order, out);
-    Judgement { answer, all }
+    let n = looked.transactions;
+    let found = arrange(input, &*labels, count, n, order, work, engine);
+    concluding::conclude(found, input, &*labels, count, &*order, out)
 }
 
 // Judges a recording as `judge_by` does, and tells each transaction that the answer names: three numbers, in serial order or cycle order.
@@ -155,15 +157,13 @@ pub fn report_by(
 {
     let mut labels = [0u16; 1024];
     let mut order = [0u16; 512];
-    let judgement = judge_with(input, out, work, &mut labels, &mut order, engine);
-    let answer = judgement.answer;
+    let answer = judge_with(input, out, work, &mut labels, &mut order, engine);
     let named = concluding::named(answer);
     if named == 0 {
         return answer;
     }
-    let all = judgement.all;
     let count = input.len() / 8;
-    writing::write_lines(all, &labels, count, &order[..named], lines);
+    writing::write_lines(input, &labels, count, &order[..named], lines);
     answer
 }
 
@@ -174,8 +174,7 @@ pub fn judge_by(input: &[u8], out: &mut [u8], work: &mut [u64], engine: Engine) 
 {
     let mut labels = [0u16; 1024];
     let mut order = [0u16; 512];
-    let judgement = judge_with(input, out, work, &mut labels, &mut order, engine);
-    judgement.answer
+    judge_with(input, out, work, &mut labels, &mut order, engine)
 }
 
 // Judges and reports by the plain engine.

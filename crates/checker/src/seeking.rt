@@ -11,7 +11,8 @@ ghost use Rattle.graph.specs.Arranged.{Arrangement, arranged};
 ghost use Rattle.graph.specs.Engine.{Stands};
 ghost use Rattle.thin.specs.Engine.{looked};
 ghost use Rattle.checker.specs.Refusals.{events};
-ghost use Rattle.checker.specs.Seeking.{Whole, Sought};
+ghost use Rattle.checker.specs.Concluded.{Whole};
+ghost use Rattle.checker.specs.Seeking.{Sought};
 
 // The rows to look at, where n transactions have begun before a record of transaction a: none, where the record begins it.
 fn rows_to_look(a: u16, n: u16) -> u16

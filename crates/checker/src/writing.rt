@@ -1,12 +1,12 @@
 // What is written for an answer: the serial trace, or the cycle; and the lines.
-use record::Event;
-ghost use Prim.Native.Nat.{ℕ, _+_, _*_, _-_, _<_, _≤_};
+ghost use Prim.Native.Nat.{ℕ, _+_, _*_, _/_, _-_, _≤_};
 ghost use mathlib.Core.Path.{_≡_};
 ghost use lib.ListN.{length, getD};
 ghost use Rattle.record.specs.Record.{inTwo};
 ghost use Rattle.trace.specs.Lists.{each, over};
 ghost use Rattle.graph.specs.Engine.{Few};
-ghost use Rattle.checker.specs.Writing.{writtenAt, bytesOf, lineOf, noRecord, numbersOf, Linked, chain, bytesAt};
+ghost use Rattle.checker.specs.Refusals.{events};
+ghost use Rattle.checker.specs.Writing.{writtenAt, recordIn, lineOf, noRecord, Numbering, numbersOf, Linked, chain};
 
 // Links the records, the last first: for each transaction its first record, and for each record the next of its transaction. 1,024 is none.
 fn link(labels: &[u16], count: usize, firsts: &mut [u16], nexts: &mut [u16])
@@ -72,33 +72,40 @@ fn line_up(labels: &[u16], count: usize, order: &[u16], sequence: &mut [u16]) ->
     end
 }
 
-// Writes the records of these numbers, one after the other.
-fn write_records(all: [Event; 1024], numbers: &[u16], out: &mut [u8])
-    requires { ⌜ ((k : ℕ) → getD (now numbers) k 0 < 1024) × (8 * length (now numbers) ≤ length (now out)) ⌝ }
-    ensures { λ _. ⌜ now (out .exit) ≡ over (each (bytesAt all) (now (numbers .entry))) (now (out .entry)) ⌝ }
+// Copies a record to the front of an output.
+fn copy(src: &[u8], dst: &mut [u8])
+    requires { ⌜ (length (now src) ≡ 8) × (8 ≤ length (now dst)) ⌝ }
+    ensures { λ _. ⌜ now (dst .exit) ≡ over (now (src .entry)) (now (dst .entry)) ⌝ }
 {
-    let mut n = 0;
+    let mut i = 0;
+    while i < 8 {
+        dst[i] = src[i];
+        i += 1;
+    }
+}
+
+// Writes the records of these numbers, one after the other.
+fn write_records(input: &[u8], numbers: &[u16], out: &mut [u8])
+    requires { ⌜ Numbering (length (now input) / 8) (now numbers) × (8 * length (now numbers) ≤ length (now out)) ⌝ }
+    ensures { λ _. ⌜ now (out .exit) ≡ over (each (recordIn (now (input .entry))) (now (numbers .entry))) (now (out .entry)) ⌝ }
+{
     let mut k = 0;
     while k < numbers.len() {
-        n += record::encode(all[numbers[k] as usize], &mut out[n..]);
+        let at = 8 * numbers[k] as usize;
+        copy(&input[at..at + 8], &mut out[8 * k..]);
         k += 1;
     }
 }
 
 // Writes the records of the transactions of `order`, one transaction after the other.
-pub fn write_serial(
-    all: [Event; 1024],
-    labels: &[u16; 1024],
-    count: usize,
-    order: &[u16],
-    out: &mut [u8],
-)
-    requires { ⌜ (count ≤ 1024) × Few count (now labels) × (length (each (bytesOf count all (now labels)) (now order)) ≤ 8 * count) × (8 * count ≤ length (now out)) ⌝ }
-    ensures { λ _. ⌜ now (out .exit) ≡ over (each (bytesOf count all (now (labels .entry))) (now (order .entry))) (now (out .entry)) ⌝ }
+pub fn write_serial(input: &[u8], labels: &[u16; 1024], count: usize, order: &[u16], out: &mut [u8])
+    requires { ⌜ (count ≤ 1024) × (8 * count ≤ length (now input)) × (8 * count ≤ length (now out)) ⌝ }
+    requires { ⌜ Few count (now labels) × (length (each (numbersOf count (now labels)) (now order)) ≤ count) ⌝ }
+    ensures { λ _. ⌜ now (out .exit) ≡ over (each (recordIn (now (input .entry))) (each (numbersOf count (now (labels .entry))) (now (order .entry)))) (now (out .entry)) ⌝ }
 {
     let mut sequence = [0u16; 1024];
     let n = line_up(labels, count, order, &mut sequence);
-    write_records(all, &sequence[..n], out);
+    write_records(input, &sequence[..n], out);
 }
 
 // Writes the transactions of a cycle, each in two bytes, low byte first.
@@ -117,14 +124,14 @@ pub fn write_cycle(cycle: &[u16], out: &mut [u8])
 
 // Writes a line for each transaction of `order`: its number, its thread, its first record.
 pub fn write_lines(
-    all: [Event; 1024],
+    input: &[u8],
     labels: &[u16; 1024],
     count: usize,
     order: &[u16],
     lines: &mut [u16],
 )
-    requires { ⌜ (count ≤ 1024) × Few count (now labels) × (3 * length (now order) ≤ length (now lines)) ⌝ }
-    ensures { λ _. ⌜ now (lines .exit) ≡ over (each (lineOf count all (now (labels .entry))) (now (order .entry))) (now (lines .entry)) ⌝ }
+    requires { ⌜ (count ≤ 1024) × (8 * count ≤ length (now input)) × Few count (now labels) × (3 * length (now order) ≤ length (now lines)) ⌝ }
+    ensures { λ _. ⌜ now (lines .exit) ≡ over (each (lineOf count (events (now (input .entry))) (now (labels .entry))) (now (order .entry))) (now (lines .entry)) ⌝ }
 {
     let mut firsts = [1024u16; 512];
     let mut nexts = [1024u16; 1024];
@@ -136,7 +143,8 @@ pub fn write_lines(
         let mut thread = 0;
         let mut first = 0;
         if i < 1024 {
-            let e = all[i as usize];
+            let at = 8 * i as usize;
+            let e = record::event_of(&input[at..at + 8]);
             thread = e.thread as u16;
             first = i;
         }

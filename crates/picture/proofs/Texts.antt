@@ -3,14 +3,14 @@ use Prim.Native.Nat.{ℕ, _+_, _-_, _<_, _≤_}
 use native.Mathlib.Omega.{arith}
 use mathlib.Core.Path.{_≡_, refl, sym, ap, ap₂, _∙_}
 use mathlib.Core.Bool.{true, false}
-use mathlib.Core.List.{List, [], _∷_, _++_, map}
+use mathlib.Core.List.{List, [], _∷_, _++_}
 use lib.ListN.{length, length-append}
 use Rattle.trace.specs.Lists.{keep, each, from, below}
 use Rattle.trace.specs.Paths.{Edge, hasEdge}
 use Rattle.trace.proofs.Tests.{by}
 use Rattle.trace.proofs.Lists.{Among, keep-true, keep-false, keep-same, below-bound, from-step, from-none}
 use Rattle.rows.specs.Bits.{has}
-use Rattle.checker.proofs.Written.{each-each}
+use Rattle.checker.proofs.Written.{each-each, each-map}
 use Rattle.decimal.specs.Decimal.{decimal}
 use Rattle.decimal.proofs.Decimals.{size-three}
 use Rattle.picture.specs.Picture.{opening, arrow, lineEnd, closing, transactionLine, edge, edgeLine, edgesFrom, edgesInOrder, drawing}
@@ -77,11 +77,6 @@ unfolding each keep
 row-end work n a b h = ap (λ l. each (λ c. edgeLine (edge a c)) (keep (has work a) l)) (from-none b n h)
 
 -- ---- The text by the edges
-
-each-map : {A B C : Type 0} (f : B → List C) (g : A → B) (l : List A) → each f (map g l) ≡ each (λ x. f (g x)) l
-unfolding each
-each-map f g [] = refl
-each-map f g (x ∷ l) = ap (λ r. f (g x) ++ r) (each-map f g l)
 
 each-same : {A B : Type 0} (f g : A → List B) (l : List A) → ((x : A) → Among x l → f x ≡ g x) → each f l ≡ each g l
 unfolding each

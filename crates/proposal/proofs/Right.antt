@@ -14,6 +14,7 @@ use Rattle.record.specs.Faults.{firstFault}
 use Rattle.record.specs.Record.{event, inRange}
 use Rattle.record.proofs.Laws.{none-first}
 use Rattle.replay.specs.Machine.{fresh, possible}
+use Rattle.replay.specs.Machine.{after as state-after}
 use Rattle.trace.specs.Lists.{someOf, from, over}
 use Rattle.trace.specs.Paths.{cyclic}
 use Rattle.trace.proofs.Lists.{Among, first-default, first-is, from-bound, map-append}
@@ -26,6 +27,7 @@ use Rattle.checker.specs.Examined.{inputChecks}
 use Rattle.checker.specs.Refusals as Checker
 use Rattle.checker.specs.Refusals.{recordsOf, start, firstRefusal, events}
 use Rattle.checker.proofs.Refusing.{Sized, sized, size-passed}
+use Rattle.checker.proofs.Refusing.{sizes-passed as checker-passed}
 use Rattle.checker.proofs.Passed.{passed, records-sized}
 use Rattle.checker.proofs.Demand3.{ranged}
 use Rattle.proposal.specs.Walk.{Placed, yieldOf, yieldFor, eventsIn, needsYield, finished, stop}

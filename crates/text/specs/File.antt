@@ -11,7 +11,7 @@ use Rattle.record.specs.declared.Decoded.the-variants.{Good, Refused}
 use Rattle.record.specs.Faults.{Check, check, firstFault}
 use Rattle.record.specs.Record.{recordSize, encoded, decoded}
 use Rattle.text.specs.declared.Outcome.{Outcome}
-use Rattle.text.specs.declared.Outcome.the-variants.{Done}
+use Rattle.text.specs.declared.Outcome.the-variants.{Done, Refused as Denied}
 use Rattle.text.specs.Line.{lineFeed, glued, lineOf, lineRead}
 
 -- This paper's number and values for each case of an outcome.  0 done: the number of bytes written.  1 refused: number and record

@@ -2,6 +2,7 @@
 use crate::scan::letter;
 use crate::scan::letters;
 use record::Event;
+ghost use mathlib.Core.Path.{_≡_};
 ghost use Prim.Native.Nat.{_+_, _≤_, _<_};
 ghost use mathlib.Core.List.{[], _∷_};
 ghost use lib.ListN.{length};

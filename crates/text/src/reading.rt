@@ -9,6 +9,7 @@ use record::Op;
 ghost use mathlib.Core.Path.{_≡_};
 ghost use Prim.Native.Nat.{_≤_};
 ghost use Rattle.text.specs.Line.{words, readFields, readOperation, readWords};
+ghost use Rattle.text.specs.Line.{formless as Line·formless};
 
 // Number 14: a line without the form.
 pub fn formless() -> Decoded

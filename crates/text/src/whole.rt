@@ -12,6 +12,7 @@ ghost use Rattle.trace.specs.Lists.{over};
 ghost use Rattle.record.specs.Record.{encoded, decoded};
 ghost use Rattle.text.specs.Line.{lineOf, lineRead};
 ghost use Rattle.text.specs.File.{firstRefused, lines, recordsOf};
+ghost use Rattle.text.specs.File.{feeds as File·feeds};
 ghost use Rattle.text.specs.Steps.{LineEnd, faultNumber, Told, partBytes, allBytes};
 
 // How many line feeds there are.

@@ -1,80 +1,94 @@
 -- `checker::writing::write_records` meets its contract: one record after the other into the rest of the output.
-use Prim.Native.Nat.{_+_, _-_, _≤_, _<_}
+use Prim.Native.Nat.{ℕ, _+_, _*_, _/_, _-_, _≤_, _<_}
 use native.Mathlib.Omega.{arith}
 use mathlib.Core.Path.{ap, _∙_}
-use lib.ListN.{length, getD}
-use borrow.Author.Needs.{needs}
-use Rattle.record.specs.declared.Event.{Event}
-use Rattle.record.proofs.Laws.{size-most, length-encoded}
-use Rattle.trace.specs.Lists.{each}
-use Rattle.graph.specs.Engine.{pastEnd}
-use Rattle.checker.specs.Writing.{bytesAt}
-use Rattle.checker.proofs.Written.{Going, going-start, going-room, going-more, going-end, length-each, written-part, written-size}
+use mathlib.Core.List.{List}
+use lib.ListN.{length, getD, take, drop, length-drop}
+use Rattle.trace.specs.Lists.{each, over}
+use Rattle.checker.specs.Writing.{recordIn}
+use Rattle.checker.proofs.Written.{Going, going-start, going-room, going-more, going-end, length-each-at, written-rest}
+use Rattle.checker.proofs.Scanned.{bytes-size, part-is, part-size}
 use Rattle.checker.proofs.writing.write_records.Statement.{statement}
 use Rattle.checker.proofs.writing.write_records.Tie as tie
 
 abbrev Inv-loop : tie.InvT-loop
-Inv-loop numbers out₀ all n₀ k₀ out n k = (k ≤ length numbers) × Going (bytesAt all) numbers out₀ out n k
+Inv-loop input numbers out₀ k₀ out k = (k ≤ length numbers) × Going (recordIn input) numbers out₀ out (8 * k) k
 
 abbrev μ-loop : tie.MeasureT-loop
-μ-loop numbers out₀ all n₀ k₀ out n k = length numbers - k
+μ-loop input numbers out₀ k₀ out k = length numbers - k
 
 -- all records fit
 fits : (c : tie.At-loop Inv-loop μ-loop) →
-    let a = c .before .before .before .args in
-    length (each (bytesAt (a .t1)) (a .numbers .now)) ≤ length (a .out .now)
+    let a = c .before .before .before .before .args in
+    length (each (recordIn (a .input .now)) (a .numbers .now)) ≤ length (a .out .now)
 fits c =
-    let a = c .before .before .before .args in
-    omega (arith, c .before .before .before .pre .1, length-each (bytesAt (a .t1)) 8 (λ i. length-encoded (getD (a .t1) i pastEnd)) (a .numbers .now))
+    let s = c .before .before .before .before in
+    let a = s .args in
+    omega (arith, s .pre .1, length-each-at (recordIn (a .input .now)) 8 (a .numbers .now) (λ k h. bytes-size (a .input .now) (getD (a .numbers .now) k 0) (s .pre .0 k h)))
 
--- and there is room for the next
-room : (c : tie.After-shared-slice-known2 Inv-loop μ-loop) →
-    let at = c .before .before in
-    let a = at .before .before .before .args in
-    at .loop .n + length (bytesAt (a .t1) (getD (a .numbers .now) (at .loop .k) 0)) ≤ length (at .loop .out)
+-- the next is one of the recording's
+low : (c : tie.In-loop Inv-loop μ-loop) →
+    let a = c .before .before .before .before .before .args in
+    getD (a .numbers .now) (c .before .loop .k) 0 < length (a .input .now) / 8
+low c = c .before .before .before .before .before .pre .0 (c .before .loop .k) (omega arith)
+
+-- and there is room for it
+room : (c : tie.In-loop Inv-loop μ-loop) → 8 * c .before .loop .k + 8 ≤ length (c .before .loop .out)
 room c =
-    let at = c .before .before in
-    let a = at .before .before .before .args in
-    going-room (bytesAt (a .t1)) (a .numbers .now) (a .out .now) (at .loop .out) (at .loop .n) (at .loop .k) (fits at) (omega arith) (at .loop .inv .1)
-
--- it is the number of a record
-low : (c : tie.After-shared-slice-known2 Inv-loop μ-loop) → getD (c .before .before .before .before .before .args .numbers .now) (c .before .before .loop .k) 0 < 1024
-low c = c .before .before .before .before .before .pre .0 (c .before .before .loop .k)
+    let at = c .before in
+    let a = at .before .before .before .before .args in
+    omega (
+      arith,
+      going-room (recordIn (a .input .now)) (a .numbers .now) (a .out .now) (at .loop .out) (8 * at .loop .k) (at .loop .k) (fits at) (omega arith) (at .loop .inv .1),
+      bytes-size (a .input .now) (getD (a .numbers .now) (at .loop .k) 0) (low c),
+    )
 
 loop-holds : tie.Need-loop-holds Inv-loop μ-loop
 loop-holds c =
-    let a = c .before .before .args in
-    (omega arith, going-start (bytesAt (a .t1)) (a .numbers .now) (a .out .now))
+    let a = c .before .before .before .args in
+    (omega arith, going-start (recordIn (a .input .now)) (a .numbers .now) (a .out .now))
 
-mul-encode : tie.Need-mul-encode Inv-loop μ-loop
-mul-encode c = omega arith
+mul-at : tie.Need-mul-at Inv-loop μ-loop
+mul-at c = omega arith
 
-shared-slice-read-encode : tie.Need-shared-slice-read-encode Inv-loop μ-loop
-shared-slice-read-encode c = omega arith
+shared-slice-read-at : tie.Need-shared-slice-read-at Inv-loop μ-loop
+shared-slice-read-at c = omega arith
 
-cast-encode : tie.Need-cast-encode Inv-loop μ-loop
-cast-encode c = omega (arith, low c)
+cast-at : tie.Need-cast-at Inv-loop μ-loop
+cast-at c = omega (arith, low (c .before))
 
-mul-encode-2 : tie.Need-mul-encode-2 Inv-loop μ-loop
-mul-encode-2 c = omega (arith, low c)
+mul-at-2 : tie.Need-mul-at-2 Inv-loop μ-loop
+mul-at-2 c = omega (arith, low (c .before))
 
-array-copy-out-encode : tie.Need-array-copy-out-encode Inv-loop μ-loop
-array-copy-out-encode c = low c
+add-copy : tie.Need-add-copy Inv-loop μ-loop
+add-copy c = omega (arith, low (c .before))
 
-sub-encode : tie.Need-sub-encode Inv-loop μ-loop
-sub-encode c = omega (arith, room (c .before))
+sub-copy : tie.Need-sub-copy Inv-loop μ-loop
+sub-copy c = omega (arith, low (c .before))
 
-part-encode-start : tie.Need-part-encode-start Inv-loop μ-loop
-part-encode-start c = omega (arith, room (c .before))
+part-copy-start : tie.Need-part-copy-start Inv-loop μ-loop
+part-copy-start c = omega (arith, low (c .before))
 
-part-encode-end : tie.Need-part-encode-end Inv-loop μ-loop
-part-encode-end c = omega (arith, room (c .before))
+part-copy-end : tie.Need-part-copy-end Inv-loop μ-loop
+part-copy-end c = omega (arith, low (c .before))
 
-encode-requires : tie.Need-encode-requires Inv-loop μ-loop
-encode-requires c κs = search needs
+mul-copy : tie.Need-mul-copy Inv-loop μ-loop
+mul-copy c = omega (arith, room (c .before .before))
 
-add-n : tie.Need-add-n Inv-loop μ-loop
-add-n c = omega (arith, room (c .before .before .before .before .before), size-most _ _ (c .before .before .encode .ensures .0))
+sub-copy-2 : tie.Need-sub-copy-2 Inv-loop μ-loop
+sub-copy-2 c = omega (arith, room (c .before .before))
+
+part-copy-start-2 : tie.Need-part-copy-start-2 Inv-loop μ-loop
+part-copy-start-2 c = omega (arith, room (c .before .before))
+
+part-copy-end-2 : tie.Need-part-copy-end-2 Inv-loop μ-loop
+part-copy-end-2 c = omega (arith, room (c .before .before))
+
+copy-requires : tie.Need-copy-requires Inv-loop μ-loop
+copy-requires c κs =
+    let at = c .before .before .before .before in
+    let input : List ℕ = at .before .before .before .before .args .input .now in
+    (part-size input _ (low (c .before .before .before)), omega (arith, room (c .before .before .before), length-drop (8 * at .loop .k) (at .loop .out)))
 
 add-k : tie.Need-add-k Inv-loop μ-loop
 add-k c = omega arith
@@ -85,14 +99,14 @@ loop-less c = omega arith
 loop-again : tie.Need-loop-again Inv-loop μ-loop
 loop-again c =
     let at = c .before .before .before .before .before .before .before in
-    let a = at .before .before .before .args in
-    let e : Event = getD (a .t1) (getD (a .numbers .now) (at .loop .k) 0) pastEnd in
-    let r = room (c .before .before .before .before .before) in
-    let w = c .before .before .encode .ensures in (
+    let a = at .before .before .before .before .args in
+    let i : ℕ = getD (a .numbers .now) (at .loop .k) 0 in
+    let r = room (c .before .before .before .before .before .before) in
+    let rest : List ℕ = take (length (at .loop .out) - 8 * at .loop .k) (drop (8 * at .loop .k) (at .loop .out)) in (
       omega arith,
-      going-more (bytesAt (a .t1)) (a .numbers .now) (a .out .now) (at .loop .out) (at .loop .n) (at .loop .k) _ _ (fits at) (omega arith) (at .loop .inv .1)
-          (written-part e (at .loop .out) (at .loop .n) r _ (w .1))
-          (ap (λ m. at .loop .n + m) (w .0 ∙ written-size e (at .loop .out) (at .loop .n) r)),
+      going-more (recordIn (a .input .now)) (a .numbers .now) (a .out .now) (at .loop .out) (8 * at .loop .k) (at .loop .k) _ (8 * (at .loop .k + 1)) (fits at) (omega arith) (at .loop .inv .1)
+          (written-rest (recordIn (a .input .now) i) (at .loop .out) (8 * at .loop .k) (omega arith) _ (c .before .before .copy .ensures ∙ ap (λ l. over l rest) (part-is (a .input .now) i)))
+          (omega (arith, bytes-size (a .input .now) i (low (c .before .before .before .before .before .before)))),
     )
 
 same-length : tie.Need-same-length Inv-loop μ-loop
@@ -100,9 +114,9 @@ same-length c = c .before .loop .inv .1 .same
 
 returns : tie.Need-returns Inv-loop μ-loop
 returns c =
-    let a = c .before .before .before .before .args in
+    let a = c .before .before .before .before .before .args in
     let at = c .before .loop in
-    going-end (bytesAt (a .t1)) (a .numbers .now) (a .out .now) (at .out) (at .n) (at .k) (omega arith) (at .inv .1)
+    going-end (recordIn (a .input .now)) (a .numbers .now) (a .out .now) (at .out) (8 * at .k) (at .k) (omega arith) (at .inv .1)
 
 pub write-records-spec : {M : Type 1} → statement M
 write-records-spec =
@@ -111,16 +125,19 @@ write-records-spec =
     Inv-loop
     μ-loop
     loop-holds
-    mul-encode
-    shared-slice-read-encode
-    cast-encode
-    mul-encode-2
-    array-copy-out-encode
-    sub-encode
-    part-encode-start
-    part-encode-end
-    encode-requires
-    add-n
+    mul-at
+    shared-slice-read-at
+    cast-at
+    mul-at-2
+    add-copy
+    sub-copy
+    part-copy-start
+    part-copy-end
+    mul-copy
+    sub-copy-2
+    part-copy-start-2
+    part-copy-end-2
+    copy-requires
     add-k
     loop-less
     loop-again
