@@ -1,5 +1,5 @@
 -- Laws of what is written: piece after piece, and into the rest of an output.
-use Prim.Native.Nat.{ℕ, suc, _+_, _*_, _-_, _≤_, _<_}
+use Prim.Native.Nat.{ℕ, zero, suc, _+_, _*_, _-_, _≤_, _<_}
 use native.Mathlib.Omega.{arith}
 use native.Mathlib.Nat.{add-zero, zero-add, add-comm, mul-suc, mul-zero}
 use native.Mathlib.Numerals.{add-one}
@@ -75,6 +75,15 @@ over-next {A = A} s old j d h k =
     ap₂ (λ (l : List A) (i : ℕ). set l i (getD s j d)) (over-paste s old j (omega arith)) (sym (zero-add j))
     ∙ paste-suc old 0 s j d (omega arith) h
     ∙ sym (over-paste s old (suc j) h)
+
+-- the n numbers of a list from place k on
+abbrev pub entries : List ℕ → ℕ → ℕ → List ℕ
+entries l zero k = []
+entries l (suc n) k = getD l k 0 ∷ entries l n (suc k)
+
+pub entries-all : (l : List ℕ) (n k : ℕ) → length l ≡ k + n → entries l n k ≡ drop k l
+entries-all l zero k h = sym (drop-of-length-le l {i = k} (omega arith))
+entries-all l (suc n) k h = ap (λ r. getD l k 0 ∷ r) (entries-all l n (suc k) (omega arith)) ∙ sym (drop-cons l k 0 (omega arith))
 
 -- Writing under way: of the whole, to be written from place n of out₀ on, the rest is still to be written, from place end of out on
 pub record Left (out₀ : List ℕ) (n : ℕ) (whole : List ℕ) (out : List ℕ) (end : ℕ) (rest : List ℕ) : Type 0 where

@@ -123,21 +123,19 @@ pub fn look_through(input: &[u8], labels: &mut [u16]) -> Looked
                 labels[i] = transaction;
             }
             Seen::Faulty(number) => {
-                let refusal = Refusal { number, record: i };
                 return Looked {
-                    refusal,
+                    refusal: Refusal { number, record: i },
                     transactions,
                 };
             }
         }
         i += 1;
     }
-    let refusal = Refusal {
-        number: 0,
-        record: 0,
-    };
     Looked {
-        refusal,
+        refusal: Refusal {
+            number: 0,
+            record: 0,
+        },
         transactions,
     }
 }

@@ -72,16 +72,27 @@ fn line_up(labels: &[u16], count: usize, order: &[u16], sequence: &mut [u16]) ->
     end
 }
 
-// Copies a record to the front of an output.
+// Copies a record to the front of an output. Each byte is read before any is written, so that one move can do it.
 fn copy(src: &[u8], dst: &mut [u8])
     requires { ⌜ (length (now src) ≡ 8) × (8 ≤ length (now dst)) ⌝ }
     ensures { λ _. ⌜ now (dst .exit) ≡ over (now (src .entry)) (now (dst .entry)) ⌝ }
 {
-    let mut i = 0;
-    while i < 8 {
-        dst[i] = src[i];
-        i += 1;
-    }
+    let b0 = src[0];
+    let b1 = src[1];
+    let b2 = src[2];
+    let b3 = src[3];
+    let b4 = src[4];
+    let b5 = src[5];
+    let b6 = src[6];
+    let b7 = src[7];
+    dst[0] = b0;
+    dst[1] = b1;
+    dst[2] = b2;
+    dst[3] = b3;
+    dst[4] = b4;
+    dst[5] = b5;
+    dst[6] = b6;
+    dst[7] = b7;
 }
 
 // Writes the records of these numbers, one after the other.

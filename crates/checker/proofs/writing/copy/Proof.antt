@@ -1,70 +1,91 @@
--- `checker::writing::copy` meets its contract: one byte more is copied.
-use Prim.Native.Nat.{_-_, _≤_}
+-- `checker::writing::copy` meets its contract: eight stores of what was read, one after the other.
 use native.Mathlib.Omega.{arith}
-use native.Mathlib.Numerals.{add-one}
-use mathlib.Core.Path.{_≡_, refl, sym, ap, _∙_}
-use lib.ListN.{length, getD, set, take, length-set}
-use lib.Seq.{take-all}
+use mathlib.Core.Path.{ap, _∙_}
+use lib.ListN.{length-set}
 use Rattle.trace.specs.Lists.{over}
-use Rattle.checker.proofs.Written.{over-next}
+use Rattle.trace.proofs.Lists.{sets-over}
+use Rattle.checker.proofs.Written.{entries, entries-all}
+use borrow.Author.Needs.{needs}
 use Rattle.checker.proofs.writing.copy.Statement.{statement}
 use Rattle.checker.proofs.writing.copy.Tie as tie
 
-abbrev Inv-loop : tie.InvT-loop
-Inv-loop src dst₀ i₀ dst i = (i ≤ 8) × (length dst ≡ length dst₀) × (dst ≡ over (take i src) dst₀)
+shared-slice-read-b0 : tie.Need-shared-slice-read-b0
+shared-slice-read-b0 c = search needs
 
-abbrev μ-loop : tie.MeasureT-loop
-μ-loop src dst₀ i₀ dst i = 8 - i
+shared-slice-read-b1 : tie.Need-shared-slice-read-b1
+shared-slice-read-b1 c = search needs
 
-loop-holds : tie.Need-loop-holds Inv-loop μ-loop
-unfolding over
-loop-holds c = (omega arith, refl, refl)
+shared-slice-read-b2 : tie.Need-shared-slice-read-b2
+shared-slice-read-b2 c = search needs
 
-shared-slice-read-dst : tie.Need-shared-slice-read-dst Inv-loop μ-loop
-shared-slice-read-dst c = omega (arith, c .before .before .before .pre .0)
+shared-slice-read-b3 : tie.Need-shared-slice-read-b3
+shared-slice-read-b3 c = search needs
 
-slice-write-dst : tie.Need-slice-write-dst Inv-loop μ-loop
-slice-write-dst c = omega (arith, c .before .before .loop .inv .1, c .before .before .before .pre .1)
+shared-slice-read-b4 : tie.Need-shared-slice-read-b4
+shared-slice-read-b4 c = search needs
 
-add-i : tie.Need-add-i Inv-loop μ-loop
-add-i c = omega arith
+shared-slice-read-b5 : tie.Need-shared-slice-read-b5
+shared-slice-read-b5 c = search needs
 
-loop-less : tie.Need-loop-less Inv-loop μ-loop
-loop-less c = omega arith
+shared-slice-read-b6 : tie.Need-shared-slice-read-b6
+shared-slice-read-b6 c = search needs
 
-loop-again : tie.Need-loop-again Inv-loop μ-loop
-loop-again c =
-    let at = c .before .before .loop in
-    let s = c .before .before .before in
-    let src = s .args .src .now in
-    let old = s .args .dst .now in (
-      omega arith,
-      length-set (at .dst) (at .i) (getD src (at .i) 0) ∙ at .inv .1,
-      ap (λ l. set l (at .i) (getD src (at .i) 0)) (at .inv .2)
-          ∙ over-next src old (at .i) 0 (omega (arith, s .pre .0)) (omega (arith, s .pre .1))
-          ∙ ap (λ n. over (take n src) old) (sym (add-one (at .i))),
-    )
+shared-slice-read-b7 : tie.Need-shared-slice-read-b7
+shared-slice-read-b7 c = search needs
 
-same-length : tie.Need-same-length Inv-loop μ-loop
-same-length c = c .before .loop .inv .1
+slice-write-dst : tie.Need-slice-write-dst
+slice-write-dst c = search needs
 
-returns : tie.Need-returns Inv-loop μ-loop
+slice-write-dst-2 : tie.Need-slice-write-dst-2
+slice-write-dst-2 c = simp length-set (omega arith)
+
+slice-write-dst-3 : tie.Need-slice-write-dst-3
+slice-write-dst-3 c = simp length-set (omega arith)
+
+slice-write-dst-4 : tie.Need-slice-write-dst-4
+slice-write-dst-4 c = simp length-set (omega arith)
+
+slice-write-dst-5 : tie.Need-slice-write-dst-5
+slice-write-dst-5 c = simp length-set (omega arith)
+
+slice-write-dst-6 : tie.Need-slice-write-dst-6
+slice-write-dst-6 c = simp length-set (omega arith)
+
+slice-write-dst-7 : tie.Need-slice-write-dst-7
+slice-write-dst-7 c = simp length-set (omega arith)
+
+slice-write-dst-8 : tie.Need-slice-write-dst-8
+slice-write-dst-8 c = simp length-set (omega arith)
+
+same-length : tie.Need-same-length
+same-length c = simp length-set
+
+returns : tie.Need-returns
 returns c =
-    let at = c .before .loop in
-    let s = c .before .before in
-    at .inv .2 ∙ ap (λ l. over l (s .args .dst .now)) (take-all (at .i) (s .args .src .now) (omega (arith, s .pre .0)))
+    let s = c .before .before .before .before .before .before .before .before in
+    let src = s .args .src .now in
+    let dst = s .args .dst .now in
+    sets-over (entries src 8 0) dst (s .pre .1) ∙ ap (λ l. over l dst) (entries-all src 8 0 (s .pre .0))
 
 pub copy-spec : {M : Type 1} → statement M
 copy-spec =
     tie.close
     (tie.spec
-    Inv-loop
-    μ-loop
-    loop-holds
-    shared-slice-read-dst
+    shared-slice-read-b0
+    shared-slice-read-b1
+    shared-slice-read-b2
+    shared-slice-read-b3
+    shared-slice-read-b4
+    shared-slice-read-b5
+    shared-slice-read-b6
+    shared-slice-read-b7
     slice-write-dst
-    add-i
-    loop-less
-    loop-again
+    slice-write-dst-2
+    slice-write-dst-3
+    slice-write-dst-4
+    slice-write-dst-5
+    slice-write-dst-6
+    slice-write-dst-7
+    slice-write-dst-8
     same-length
     returns)
