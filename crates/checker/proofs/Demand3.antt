@@ -8,7 +8,7 @@ use lib.ListN.{length, drop, replicate, length-map}
 use lib.Dec.{T}
 use Rattle.record.specs.declared.Event.{Event}
 use Rattle.record.specs.declared.Decoded.the-variants.{Good}
-use Rattle.record.specs.Record.{event, decoded, encoded, inTwo, inRange}
+use Rattle.record.specs.Record.{event, decoded, encoded, inTwo, inRange, records, recordsOf}
 use Rattle.record.proofs.Laws.{decoded-good, decoded-range, decode-encoded}
 use Rattle.replay.specs.Machine.{fresh, possible}
 use Rattle.trace.specs.Lists.{each, over}
@@ -27,7 +27,7 @@ use Rattle.graph.proofs.Demand3.{cooperable-right, violation-right}
 use Rattle.graph.proofs.Round.{cycle-right}
 use Rattle.graph.proofs.Meaning.{shortest-cyclic, shortest-first}
 use Rattle.checker.specs.Verdict.{Verdict, cooperable, violation, verdict}
-use Rattle.checker.specs.Refusals.{records, recordsOf, refusal, events}
+use Rattle.checker.specs.Refusals.{refusal, events}
 use Rattle.checker.specs.Judged.{Judged, judged}
 use Rattle.checker.specs.Demand3.{numbersIn, Written, Violated, Trusted}
 use Rattle.checker.proofs.Passed.{InForm, passed, records-sized}

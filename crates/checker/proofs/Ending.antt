@@ -15,16 +15,16 @@ use Rattle.graph.specs.Transactions.{Labelled, labelled, transactions}
 use Rattle.graph.specs.Serial.{eventsOf, threadOf, serialOrder, serialTrace}
 use Rattle.graph.specs.Violation.{shortest, cycleOf}
 use Rattle.graph.specs.Arranged.{named, found}
-use Rattle.graph.specs.Engine.{held, Few, Labels}
+use Rattle.graph.specs.Engine.{pastEnd, held, Few, Labels}
 use Rattle.graph.proofs.Arranging.{labels-below}
 use Rattle.graph.proofs.Sizes.{order-size, trace-size, cycle-most, transactions-most}
 use Rattle.checker.specs.declared.Answer.the-variants.{Cooperable, Violation}
 use Rattle.checker.specs.Verdict.{verdict, cooperable, violation}
 use Rattle.checker.specs.Report as Report
 use Rattle.checker.specs.Refusals.{events}
-use Rattle.checker.specs.Writing.{recordIn, lineOf, numbersOf}
+use Rattle.checker.specs.Writing.{bytesIn, lineOf, numbersOf}
 use Rattle.checker.specs.Concluded.{Whole, Ready, Concluded}
-use Rattle.checker.proofs.Scanned.{events-size}
+use Rattle.checker.proofs.Scanned.{events-size, event-at}
 use Rattle.checker.proofs.Linking.{numbers-size, bytes-by-number}
 
 -- ---- What was found
@@ -102,8 +102,8 @@ module _ (a : Arranged) (input labels : List ℕ) (count : ℕ) (order out : Lis
   unfolding lineOf Report.line
   lines-are l = ap (λ xs. each (λ a. a ∷ threadOf xs a ∷ Report.firstRecord 0 xs a ∷ []) l) (r .whole .labelled-are)
 
-  bytes-are : (l : List ℕ) → each (recordIn input) (each (numbersOf count labels) l) ≡ each encoded (each (eventsOf (labelled es)) l)
-  bytes-are l = bytes-by-number count es labels input (r .bytes-are) l ∙ ap (λ xs. each encoded (each (eventsOf xs) l)) (r .whole .labelled-are)
+  bytes-are : (l : List ℕ) → each (bytesIn input) (each (numbersOf count labels) l) ≡ each encoded (each (eventsOf (labelled es)) l)
+  bytes-are l = bytes-by-number count es labels input (λ i h. ap encoded (sym (event-at input i pastEnd (omega (arith, r .whole .size))))) l ∙ ap (λ xs. each encoded (each (eventsOf xs) l)) (r .whole .labelled-are)
 
   -- the named transactions stand at the front of the order, and each has its line
   front-named : (n : ℕ) → n ≡ length (named es (shortest es)) → take n order ≡ named es (shortest es)
@@ -131,7 +131,7 @@ module _ (a : Arranged) (input labels : List ℕ) (count : ℕ) (order out : Lis
     in-turn : take t order ≡ serialOrder es
     in-turn = front-named t all-named ∙ named-serial es none
 
-    trace-is : each (recordIn input) (each (numbersOf count labels) (take t order)) ≡ each encoded (serialTrace es)
+    trace-is : each (bytesIn input) (each (numbersOf count labels) (take t order)) ≡ each encoded (serialTrace es)
     unfolding serialTrace
     trace-is = bytes-are (take t order) ∙ ap (λ l. each encoded (each (eventsOf (labelled es)) l)) in-turn
 
@@ -145,7 +145,7 @@ module _ (a : Arranged) (input labels : List ℕ) (count : ℕ) (order out : Lis
         ap₂ (λ (xs : List Labelled) (l : List ℕ). length (each (eventsOf xs) l)) (r .whole .labelled-are) in-turn in
         omega (arith, numbers-size count es labels (take t order), long, trace-size es none, size)
 
-    pub concluded-cooperable : (out′ : List ℕ) → out′ ≡ over (each (recordIn input) (each (numbersOf count labels) (take t order))) out
+    pub concluded-cooperable : (out′ : List ℕ) → out′ ≡ over (each (bytesIn input) (each (numbersOf count labels) (take t order))) out
         → Concluded es out out′ (Cooperable count t)
     unfolding cooperable
     concluded-cooperable out′ p =

@@ -10,7 +10,7 @@ use lib.Seq.{take-suc, take-at, take-all}
 use borrow.Author.Tests.{eqb-true, leb-true, eq-eqb, le-leb}
 use Rattle.record.specs.declared.Event.{Event}
 use Rattle.record.specs.Faults.{check, firstFault}
-use Rattle.record.specs.Record.{event}
+use Rattle.record.specs.Record.{event, recordsOf}
 use Rattle.record.proofs.Laws.{Counted, none-first, first-of-both, second-of-both}
 use Rattle.trace.specs.Lists.{over}
 use Rattle.trace.proofs.Lists.{map-append}
@@ -23,7 +23,7 @@ use Rattle.graph.proofs.Labels.{labelled-events}
 use Rattle.graph.proofs.Round.{labelled-length}
 use Rattle.checker.specs.declared.Refusal.{Refusal}
 use Rattle.checker.specs.declared.examining.Looked.{Looked}
-use Rattle.checker.specs.Refusals.{sizeChecks, Run, start, onwards, recordChecks, Fault, noFault, recordsOf, firstRefusal, events}
+use Rattle.checker.specs.Refusals.{sizeChecks, Run, start, onwards, recordChecks, Fault, noFault, firstRefusal, events}
 use Rattle.checker.specs.Examined.{inputChecks, inputRefusal, sound, soundEvents, noEvent, Examination, examined, asFault}
 use Rattle.checker.specs.Seeing.{SawAll}
 use Rattle.checker.proofs.Refusing.{Sized, sized, refusal-on, refusal-at}

@@ -20,7 +20,7 @@ use Rattle.graph.specs.Serial.{eventsOf, threadOf}
 use Rattle.graph.specs.Engine.{pastEnd, recordAt, held}
 use Rattle.graph.proofs.Held.{held-from, held-end}
 use Rattle.checker.specs.Report.{firstRecord}
-use Rattle.checker.specs.Writing.{recordIn, Numbering, numbersFrom, numbersOf, noRecord, firstFrom, Linked, chain}
+use Rattle.checker.specs.Writing.{bytesIn, Numbering, numbersFrom, numbersOf, noRecord, firstFrom, Linked, chain}
 use Rattle.checker.proofs.Written.{over-front, each-map, each-within}
 
 -- ---- The numbers of a transaction's records
@@ -218,10 +218,10 @@ module _ (n : ℕ) (es : List Event) (labels : List ℕ) where
   numbers-size l = ap length (events-by-number l) ∙ length-map (each (numbersOf n labels) l) at
 
   -- where the bytes of each record are those of its event, their bytes
-  pub bytes-by-number : (input : List ℕ) → ((i : ℕ) → i < n → recordIn input i ≡ encoded (at i)) → (l : List ℕ)
-      → each (recordIn input) (each (numbersOf n labels) l) ≡ each encoded (each (eventsOf (held n es labels)) l)
+  pub bytes-by-number : (input : List ℕ) → ((i : ℕ) → i < n → bytesIn input i ≡ encoded (at i)) → (l : List ℕ)
+      → each (bytesIn input) (each (numbersOf n labels) l) ≡ each encoded (each (eventsOf (held n es labels)) l)
   bytes-by-number input same l =
-      each-within (recordIn input) (λ i. encoded (at i)) n (each (numbersOf n labels) l) (numbers-below n labels l) same
+      each-within (bytesIn input) (λ i. encoded (at i)) n (each (numbersOf n labels) l) (numbers-below n labels l) same
       ∙ sym (each-map encoded at (each (numbersOf n labels) l))
       ∙ ap (each encoded) (sym (events-by-number l))
 

@@ -10,7 +10,7 @@ use lib.ListN.{length, take, drop, replicate, length-append, length-drop}
 use borrow.Author.Tests.{leb-false, le-leb}
 use Rattle.record.specs.declared.Event.{Event}
 use Rattle.record.specs.Faults.{firstFault}
-use Rattle.record.specs.Record.{event}
+use Rattle.record.specs.Record.{event, recordsOf}
 use Rattle.trace.specs.Lists.{each, over}
 use Rattle.trace.proofs.Tests.{by}
 use Rattle.graph.specs.Transactions.{Tally, none-yet, begins, full, tallied, tallyFrom, transactions}
@@ -23,7 +23,7 @@ use Rattle.checker.specs.declared.Answer.{Answer}
 use Rattle.checker.specs.declared.Answer.the-variants.{Refused}
 use Rattle.checker.specs.declared.Refusal.{Refusal}
 use Rattle.checker.specs.Verdict.{Numbers, numbers, verdict}
-use Rattle.checker.specs.Refusals.{sizeChecks, Run, start, onwards, recordChecks, firstRefusal, recordsOf, refusal, events}
+use Rattle.checker.specs.Refusals.{sizeChecks, Run, start, onwards, recordChecks, firstRefusal, refusal, events}
 use Rattle.checker.specs.Judged.{Judged, judged}
 use Rattle.checker.specs.declared.examining.Looked.{Looked}
 use Rattle.checker.specs.Examined.{soundEvents, asFault}
@@ -35,7 +35,6 @@ use Rattle.checker.specs.Report.{lines as lines-of}
 use Rattle.checker.proofs.Refusing.{Sized, sized, size-passed, refusal-on, refusal-at}
 use Rattle.checker.proofs.Looked.{parts-passed}
 use Rattle.checker.proofs.Written.{over-front}
-use Rattle.checker.proofs.Passed.{record-bytes}
 use Rattle.checker.proofs.Taking.{events-orderly}
 use Rattle.checker.proofs.Ending.{named-serial, named-cycle, lines-named, whole-few}
 use Rattle.checker.proofs.Scanned.{labelsOf}
@@ -190,7 +189,6 @@ module _ (input out work : List ℕ) (passed : firstFault (sizeChecks input out 
       pub ready : Ready a input labels (length input / 8) o out
       ready = record {
         whole = record { size = whole .size; most = whole .most; labelled-are = whole .labelled-are; counted = refl; few = whole .few; in-order = whole .in-order };
-        bytes-are = record-bytes input out work no-refusal;
         found-is = ap (λ x. x .answer) arranged-whole;
         order-size = omega (arith, order-long);
         order-is = ap (take (length (named es (shortest es)))) order-now ∙ over-front (named es (shortest es)) order;

@@ -8,17 +8,16 @@ use mathlib.Core.List.{List, [], _∷_, map}
 use lib.ListN.{length, getD, set, take, drop, replicate, length-drop, length-map}
 use lib.Seq.{length-take-le, drop-drop}
 use Rattle.record.specs.declared.Event.{Event}
-use Rattle.record.specs.Record.{event}
+use Rattle.record.specs.Record.{event, records, recordsOf}
 use Rattle.replay.specs.declared.State.{State}
 use Rattle.replay.specs.Machine.{fresh}
 use Rattle.trace.specs.Lists.{over}
-use Rattle.trace.proofs.Lists.{Every}
 use Rattle.graph.specs.Transactions.{Tally, none-yet, Labelled, belongs, tallied, tallyFrom, labelledFrom, labelled}
 use Rattle.graph.specs.Engine.{pastEnd}
 use Rattle.graph.proofs.Numbers.{labelled-take}
 use Rattle.graph.proofs.Round.{labelled-length}
 use Rattle.checker.specs.declared.examining.Seen.the-variants.{Sound, Faulty}
-use Rattle.checker.specs.Refusals.{Run, start, records, recordsOf, noFault, firstRefusal, events}
+use Rattle.checker.specs.Refusals.{Run, start, noFault, firstRefusal, events}
 use Rattle.checker.specs.Seeing.{runOf, Saw}
 use Rattle.checker.specs.Writing.{recordIn}
 use Rattle.checker.proofs.Refusing.{refusal-on, refusal-at}
@@ -72,13 +71,6 @@ record-shift : (bs : List ℕ) (i : ℕ) → recordIn (drop 8 bs) i ≡ recordIn
 record-shift bs i =
     let m : 8 + 8 * i ≡ 8 * suc i = omega arith in
     ap (take 8) (drop-drop (8 * i) 8 bs ∙ ap (λ k. drop k bs) m)
-
--- what holds of each record holds of record i
-pub every-record : (P : List ℕ → Type 0) (n : ℕ) (bs : List ℕ) (i : ℕ) → i < n → Every P (records n bs) → P (recordIn bs i)
-unfolding records
-every-record P zero bs i h e = absurd (omega arith)
-every-record P (suc n) bs zero h e = e .0
-every-record P (suc n) bs (suc i) h e = subst P (record-shift bs i) (every-record P n (drop 8 bs) i (omega arith) (e .1))
 
 -- the event of record i
 record-at : (n : ℕ) (bs : List ℕ) (i : ℕ) (d : Event) → i < n → getD (map event (records n bs)) i d ≡ event (recordIn bs i)

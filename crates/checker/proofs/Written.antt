@@ -226,16 +226,13 @@ each-within f g n [] low same = refl
 each-within f g n (x ∷ l) low same = ap₂ _++_ (same x (low 0 (omega arith))) (each-within f g n l (λ k h. low (suc k) (omega arith)) same)
 
 -- each has w numbers
-pub length-each-at : (f : ℕ → List ℕ) (w : ℕ) (l : List ℕ) → ((k : ℕ) → k < length l → length (f (getD l k 0)) ≡ w) → length (each f l) ≡ w * length l
-unfolding each
-length-each-at f w [] h = sym (mul-zero w)
-length-each-at f w (a ∷ l) h =
-    let p : length (f a ++ each f l) ≡ length (f a) + length (each f l) = length-append (f a) (each f l) in
-    let q : length (each f l) ≡ w * length l = length-each-at f w l (λ k m. h (suc k) (omega arith)) in
-    p ∙ ap₂ _+_ (h 0 (omega arith)) q ∙ add-comm w (w * length l) ∙ sym (mul-suc w (length l))
-
 pub length-each : (f : ℕ → List ℕ) (w : ℕ) → ((a : ℕ) → length (f a) ≡ w) → (l : List ℕ) → length (each f l) ≡ w * length l
-length-each f w h l = length-each-at f w l (λ k m. h (getD l k 0))
+unfolding each
+length-each f w h [] = sym (mul-zero w)
+length-each f w h (a ∷ l) =
+    let p : length (f a ++ each f l) ≡ length (f a) + length (each f l) = length-append (f a) (each f l) in
+    let q : length (each f l) ≡ w * length l = length-each f w h l in
+    p ∙ ap₂ _+_ (h a) q ∙ add-comm w (w * length l) ∙ sym (mul-suc w (length l))
 
 pub length-line : (n : ℕ) (all : List Event) (labels : List ℕ) (a : ℕ) → length (lineOf n all labels a) ≡ 3
 unfolding lineOf

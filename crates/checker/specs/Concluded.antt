@@ -4,22 +4,22 @@ use Prim.Native.Nat.{ℕ, _*_, _/_, _≤_, _<_}
 use mathlib.Core.Path.{_≡_}
 use mathlib.Core.List.{List}
 use lib.Dec.{T}
-use lib.ListN.{length, getD, take}
+use lib.ListN.{length, take}
 use Rattle.record.specs.declared.Event.{Event}
-use Rattle.record.specs.Record.{recordSize, encoded}
+use Rattle.record.specs.Record.{recordSize}
 use Rattle.trace.specs.Lists.{each, over}
 use Rattle.graph.specs.declared.Arranged.{Arranged}
 use Rattle.graph.specs.Transactions.{transactionLimit, labelled, transactions}
 use Rattle.graph.specs.Violation.{shortest}
 use Rattle.graph.specs.Arranged.{named, found}
-use Rattle.graph.specs.Engine.{pastEnd, held, Few}
+use Rattle.graph.specs.Engine.{held, Few}
 use Rattle.thin.specs.Orderly.{orderly}
 use Rattle.checker.specs.declared.Answer.{Answer}
 use Rattle.checker.specs.declared.Answer.the-variants.{Cooperable, Violation, Refused}
 use Rattle.checker.specs.Refusals.{events}
 use Rattle.checker.specs.Verdict.{numbers, verdict}
 use Rattle.checker.specs.Report.{reported}
-use Rattle.checker.specs.Writing.{recordIn, lineOf}
+use Rattle.checker.specs.Writing.{lineOf}
 
 -- What is known of a recording that isn't refused: how many records it has, their labels, and how many transactions; and that its events are orderly
 pub record Whole (input labels : List ℕ) (count n : ℕ) : Type 0 where
@@ -30,10 +30,9 @@ pub record Whole (input labels : List ℕ) (count n : ℕ) : Type 0 where
   pub few : transactions (events input) ≤ transactionLimit
   pub in-order : T (orderly (events input))
 
--- Such a recording, arranged: what was found, the order, and room for what is to be written. The bytes of each record are those of its event
+-- Such a recording, arranged: what was found, the order, and room for what is to be written
 pub record Ready (a : Arranged) (input labels : List ℕ) (count : ℕ) (order out : List ℕ) : Type 0 where
   pub whole : Whole input labels count (transactions (events input))
-  pub bytes-are : (i : ℕ) → i < count → recordIn input i ≡ encoded (getD (events input) i pastEnd)
   pub found-is : a ≡ found (events input) (shortest (events input))
   pub order-size : 512 ≤ length order
   pub order-is : (let all = named (events input) (shortest (events input)) in take (length all) order ≡ all)

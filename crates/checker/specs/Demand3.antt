@@ -7,14 +7,14 @@ use lib.ListN.{length, drop}
 use lib.Dec.{T}
 use Rattle.record.specs.declared.Event.{Event}
 use Rattle.record.specs.declared.Decoded.the-variants.{Good}
-use Rattle.record.specs.Record.{decoded, twoBytes}
+use Rattle.record.specs.Record.{decoded, twoBytes, records, recordsOf}
 use Rattle.replay.specs.Machine.{fresh, after, possible}
 use Rattle.trace.specs.Paths.{Cycle}
 use Rattle.graph.specs.Swaps.{Swaps, Serial}
 use Rattle.graph.specs.Violation.{edgesUpTo, transactionAt}
 use Rattle.graph.specs.Rule.{Reported}
 use Rattle.checker.specs.Verdict.{Numbers}
-use Rattle.checker.specs.Refusals.{records, recordsOf, events}
+use Rattle.checker.specs.Refusals.{events}
 use Rattle.checker.specs.Judged.{judged}
 
 -- the first n numbers of a list of bytes, two bytes each, low byte first

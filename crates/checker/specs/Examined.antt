@@ -7,11 +7,11 @@ use lib.Dec.{leb, eqb}
 use Rattle.record.specs.declared.Event.{Event}
 use Rattle.record.specs.declared.Op.the-variants.{Yield}
 use Rattle.record.specs.Faults.{Check, check, firstFault}
-use Rattle.record.specs.Record.{recordSize}
+use Rattle.record.specs.Record.{recordSize, recordsOf}
 use Rattle.trace.specs.Lists.{over}
 use Rattle.graph.specs.Transactions.{labelled}
 use Rattle.checker.specs.declared.Refusal.{Refusal}
-use Rattle.checker.specs.Refusals.{Fault, start, recordsOf, firstRefusal, events}
+use Rattle.checker.specs.Refusals.{Fault, start, firstRefusal, events}
 
 -- 1 and 2, tried in that order
 unfoldable pub inputChecks : List ℕ → List Check

@@ -1,5 +1,5 @@
 -- The examples P1 to P11 of document 01, as one table, proved of the definitions by computing them.
-use Prim.Native.Nat.{ℕ, zero, suc}
+use Prim.Native.Nat.{ℕ}
 use mathlib.Core.Path.{_≡_, refl}
 use mathlib.Core.List.{List, [], _∷_, _++_}
 use lib.ListN.{replicate}

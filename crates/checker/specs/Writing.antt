@@ -7,7 +7,7 @@ use mathlib.Core.List.{List, [], _∷_, _++_}
 use lib.Dec.{eqb, ltb}
 use lib.ListN.{length, getD, take, drop}
 use Rattle.record.specs.declared.Event.{Event}
-use Rattle.record.specs.Record.{recordSize}
+use Rattle.record.specs.Record.{recordSize, event, encoded}
 use Rattle.trace.specs.Lists.{keep, firstOf, from}
 use Rattle.graph.specs.Engine.{held}
 use Rattle.graph.specs.Serial.{threadOf}
@@ -20,6 +20,10 @@ writtenAt l n new = take n l ++ (new ++ drop (n + length new) l)
 -- the bytes of record i of a recording
 abbrev pub recordIn : List ℕ → ℕ → List ℕ
 recordIn input i = take recordSize (drop (recordSize * i) input)
+
+-- what is written for it: the bytes of the event that it stands for
+abbrev pub bytesIn : List ℕ → ℕ → List ℕ
+bytesIn input i = encoded (event (recordIn input i))
 
 -- a transaction's line, among the first n events with their labels: its number, its thread, its first record
 unfoldable pub lineOf : ℕ → List Event → List ℕ → ℕ → List ℕ

@@ -6,7 +6,7 @@ ghost use Rattle.record.specs.Record.{inTwo};
 ghost use Rattle.trace.specs.Lists.{each, over};
 ghost use Rattle.graph.specs.Engine.{Few};
 ghost use Rattle.checker.specs.Refusals.{events};
-ghost use Rattle.checker.specs.Writing.{writtenAt, recordIn, lineOf, noRecord, Numbering, numbersOf, Linked, chain};
+ghost use Rattle.checker.specs.Writing.{writtenAt, bytesIn, lineOf, noRecord, Numbering, numbersOf, Linked, chain};
 
 // Links the records, the last first: for each transaction its first record, and for each record the next of its transaction. 1,024 is none.
 fn link(labels: &[u16], count: usize, firsts: &mut [u16], nexts: &mut [u16])
@@ -72,38 +72,17 @@ fn line_up(labels: &[u16], count: usize, order: &[u16], sequence: &mut [u16]) ->
     end
 }
 
-// Copies a record to the front of an output. Each byte is read before any is written, so that one move can do it.
-fn copy(src: &[u8], dst: &mut [u8])
-    requires { ⌜ (length (now src) ≡ 8) × (8 ≤ length (now dst)) ⌝ }
-    ensures { λ _. ⌜ now (dst .exit) ≡ over (now (src .entry)) (now (dst .entry)) ⌝ }
-{
-    let b0 = src[0];
-    let b1 = src[1];
-    let b2 = src[2];
-    let b3 = src[3];
-    let b4 = src[4];
-    let b5 = src[5];
-    let b6 = src[6];
-    let b7 = src[7];
-    dst[0] = b0;
-    dst[1] = b1;
-    dst[2] = b2;
-    dst[3] = b3;
-    dst[4] = b4;
-    dst[5] = b5;
-    dst[6] = b6;
-    dst[7] = b7;
-}
-
 // Writes the records of these numbers, one after the other.
 fn write_records(input: &[u8], numbers: &[u16], out: &mut [u8])
     requires { ⌜ Numbering (length (now input) / 8) (now numbers) × (8 * length (now numbers) ≤ length (now out)) ⌝ }
-    ensures { λ _. ⌜ now (out .exit) ≡ over (each (recordIn (now (input .entry))) (now (numbers .entry))) (now (out .entry)) ⌝ }
+    ensures { λ _. ⌜ now (out .exit) ≡ over (each (bytesIn (now (input .entry))) (now (numbers .entry))) (now (out .entry)) ⌝ }
 {
+    let mut n = 0;
     let mut k = 0;
     while k < numbers.len() {
         let at = 8 * numbers[k] as usize;
-        copy(&input[at..at + 8], &mut out[8 * k..]);
+        let e = record::event_of(&input[at..at + 8]);
+        n += record::encode(e, &mut out[n..]);
         k += 1;
     }
 }
@@ -112,7 +91,7 @@ fn write_records(input: &[u8], numbers: &[u16], out: &mut [u8])
 pub fn write_serial(input: &[u8], labels: &[u16; 1024], count: usize, order: &[u16], out: &mut [u8])
     requires { ⌜ (count ≤ 1024) × (8 * count ≤ length (now input)) × (8 * count ≤ length (now out)) ⌝ }
     requires { ⌜ Few count (now labels) × (length (each (numbersOf count (now labels)) (now order)) ≤ count) ⌝ }
-    ensures { λ _. ⌜ now (out .exit) ≡ over (each (recordIn (now (input .entry))) (each (numbersOf count (now (labels .entry))) (now (order .entry)))) (now (out .entry)) ⌝ }
+    ensures { λ _. ⌜ now (out .exit) ≡ over (each (bytesIn (now (input .entry))) (each (numbersOf count (now (labels .entry))) (now (order .entry)))) (now (out .entry)) ⌝ }
 {
     let mut sequence = [0u16; 1024];
     let n = line_up(labels, count, order, &mut sequence);

@@ -114,9 +114,6 @@ written-as = by-digits Written
 pub value-decimal : (n : ℕ) → valueOf (decimal n) ≡ n
 value-decimal n = written-as n .worth
 
-pub decimal-some : (n : ℕ) → 1 ≤ length (decimal n)
-decimal-some n = written-as n .some
-
 pub decimal-digits : (n : ℕ) → allOf isDigit (decimal n) ≡ true
 decimal-digits n = written-as n .all-digits
 

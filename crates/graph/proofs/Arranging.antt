@@ -7,11 +7,11 @@ use mathlib.Core.Bool.{true, false, _&&_, and-false}
 use mathlib.Core.List.{List, [], _∷_, _++_, map}
 use lib.ListN.{length, getD, take, drop, replicate, length-replicate}
 use lib.Seq.{take-all}
-use lib.Dec.{T, leb, leb→le}
+use lib.Dec.{leb, leb→le}
 use borrow.Author.Tests.{le-leb, lt-leb, leb-false}
 use Rattle.record.specs.declared.Event.{Event}
 use Rattle.trace.specs.Lists.{firstOf, from, over}
-use Rattle.trace.specs.Paths.{hasEdge, reaches, cyclic}
+use Rattle.trace.specs.Paths.{reaches, cyclic}
 use Rattle.rows.specs.Bits.{has, cleared}
 use Rattle.graph.specs.declared.Arranged.{Arranged}
 use Rattle.graph.specs.declared.Arranged.the-variants.{Unfit, Ordered, Cyclic}
@@ -26,7 +26,7 @@ use Rattle.graph.specs.Finished.{orderBy, walkBy, cycleBy, namedBy, foun
 use Rattle.trace.proofs.Tests.{by, T-of}
 use Rattle.trace.proofs.Lists.{Among, first-same, earliest}
 use Rattle.rows.proofs.Laws.{cleared-is}
-use Rattle.graph.proofs.Numbers.{sane-none, labels-lt, labelled-take, thread-edge}
+use Rattle.graph.proofs.Numbers.{sane-none, labels-lt, labelled-take}
 use Rattle.graph.proofs.Round.{blank, number-at, labelled-length}
 use Rattle.graph.proofs.Held.{length-held, held-at, held-take}
 use Rattle.graph.proofs.Standing.{stands-fewer}
@@ -60,11 +60,6 @@ module _ (n : ℕ) (all : List Event) (labels : List ℕ) (m : ℕ) (h : Labels 
       let in-xs : Among (recordAt all labels i) (labelled es) =
       subst (λ l. Among (recordAt all labels i) l) (sym (h .0)) (subst (λ x. Among x xs) (held-at i n all labels blank k) (among-at blank xs i (omega (arith, length-held n all labels)))) in
       omega (arith, labels-lt none-yet es sane-none (recordAt all labels i) in-xs, h .1)
-
-  -- two transactions of one thread have an edge
-  pub threads-ordered : (a b : ℕ) → a < b → b < m → threadOf xs a ≡ threadOf xs b → T (hasEdge (edges xs) a b)
-  threads-ordered = subst (λ l. (a b : ℕ) → a < b → b < m → threadOf l a ≡ threadOf l b → T (hasEdge (edges l) a b)) (h .0)
-      (λ a b lt hi same. thread-edge es a b lt (omega (arith, h .1)) same)
 
   -- the prefixes of the arrays are those of the events
   prefix-is : (k : ℕ) → labelled (take k es) ≡ take k xs

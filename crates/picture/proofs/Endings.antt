@@ -7,6 +7,7 @@ use mathlib.Core.List.{List, [], _∷_, _++_, map}
 use lib.Dec.{leb}
 use lib.ListN.{length, getD, take, drop, replicate, length-replicate, length-map, length-append, length-take, length-drop}
 use borrow.Author.Tests.{le-leb, lt-leb, leb-true}
+use Rattle.record.specs.Record.{recordsOf}
 use Rattle.record.specs.declared.Event.{Event}
 use Rattle.record.specs.Faults.{Check, check, firstFault}
 use Rattle.record.proofs.Laws.{none-first, first-of-both, second-of-both}
@@ -23,7 +24,7 @@ use Rattle.graph.proofs.Numbers.{sane-none, labels-lt}
 use Rattle.graph.proofs.Labels.{labelled-events}
 use Rattle.checker.specs.declared.Refusal.{Refusal}
 use Rattle.checker.specs.Verdict.{Numbers}
-use Rattle.checker.specs.Refusals.{start, recordsOf, firstRefusal, events}
+use Rattle.checker.specs.Refusals.{start, firstRefusal, events}
 use Rattle.checker.specs.Examined.{inputChecks, sound, soundEvents, Examination, examined, asFault}
 use Rattle.checker.specs.Writing.{writtenAt}
 use Rattle.checker.proofs.Written.{written-start}

@@ -61,9 +61,5 @@ pub goes-more : (total : List ℕ) (at₀ : ℕ) (out₀ b rest rest′ : List �
     → length out′ ≡ length out → rest ≡ b ++ rest′ → Puts b at out out′ at′ → Goes total at₀ out₀ rest at out → Goes total at₀ out₀ rest′ at′ out′
 goes-more total at₀ out₀ b rest rest′ at at′ out out′ size e p g = λ m r q. g m r (puts-as at r out m (sym e) (puts-both b rest′ at at′ r out out′ m size p q))
 
-pub goes-same : (total : List ℕ) (at₀ : ℕ) (out₀ rest rest′ : List ℕ) (at : ℕ) (out : List ℕ)
-    → rest ≡ rest′ → Goes total at₀ out₀ rest at out → Goes total at₀ out₀ rest′ at out
-goes-same total at₀ out₀ rest rest′ at out e g = λ m r q. g m r (puts-as at r out m (sym e) q)
-
 pub goes-end : (total : List ℕ) (at₀ : ℕ) (out₀ rest : List ℕ) (at : ℕ) (out : List ℕ) → rest ≡ [] → Goes total at₀ out₀ rest at out → Puts total at₀ out₀ out at
 goes-end total at₀ out₀ rest at out e g = g out at (puts-as at at out out (sym e) (puts-none at out))

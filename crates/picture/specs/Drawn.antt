@@ -4,11 +4,12 @@ use mathlib.Core.Bool.{true, false}
 use mathlib.Core.List.{List, [], _∷_, _++_}
 use lib.ListN.{length, replicate}
 use lib.Dec.{leb}
+use Rattle.record.specs.Record.{recordsOf}
 use Rattle.record.specs.Faults.{Check, check, firstFault}
 use Rattle.trace.specs.Lists.{over}
 use Rattle.graph.specs.Arranged.{workSize}
 use Rattle.checker.specs.Verdict.{Numbers}
-use Rattle.checker.specs.Refusals.{Fault, start, recordsOf, firstRefusal, events}
+use Rattle.checker.specs.Refusals.{Fault, start, firstRefusal, events}
 use Rattle.checker.specs.Examined.{inputChecks}
 use Rattle.picture.specs.declared.Drawn.{Drawn}
 use Rattle.picture.specs.declared.Drawn.the-variants.{Written, Refused}

@@ -1,6 +1,5 @@
 -- Records put after a recording: their labels, its tally, and whether they are possible.
 use mathlib.Core.Path.{_≡_, refl, ap}
-use mathlib.Core.Bool.{_&&_}
 use mathlib.Core.List.{List, [], _∷_, _++_}
 use lib.Dec.{T, eqb}
 use Rattle.record.specs.declared.Event.{Event}
@@ -27,10 +26,6 @@ sane-from s [] h = h
 sane-from s (e ∷ es) h = sane-from (tallied s e) es (sane-tallied s e h)
 
 -- ---- possible
-
-pub possible-cons : (s : State) (e : Event) (es : List Event) → possible s (e ∷ es) ≡ (eqb (faultOf s e) 0 && possible (next s e) es)
-unfolding possible
-possible-cons s e es = refl
 
 pub possible-parts : (s : State) (a b : List Event) → T (possible s (a ++ b)) → T (possible s a) × T (possible (after s a) b)
 unfolding possible after

@@ -10,7 +10,7 @@ use borrow.Author.Tests.{eq-eqb, le-leb, lt-leb}
 use Rattle.record.specs.declared.Event.{Event}
 use Rattle.record.specs.Faults.{firstFault, check}
 use Rattle.record.specs.Record as Record
-use Rattle.record.specs.Record.{event, encoded, inRange}
+use Rattle.record.specs.Record.{event, encoded, inRange, records, recordsOf}
 use Rattle.record.proofs.Laws.{IsEvent, good-decoded, decoded-good, decode-encoded, encode-decoded, length-encoded}
 use Rattle.replay.specs.Machine.{fresh, faultOf, possible}
 use Rattle.trace.specs.Lists.{each}
@@ -21,7 +21,7 @@ use Rattle.graph.specs.Transactions.{Tally, begins, full, tallied, tallyFrom, t
 use Rattle.graph.specs.Violation.{shortest}
 use Rattle.graph.proofs.Numbers.{count-begun, tally-rises}
 use Rattle.checker.specs.Verdict.{cooperable}
-use Rattle.checker.specs.Refusals.{sizeChecks, records, recordsOf, Run, start, onwards, firstRefusal, refusal, events}
+use Rattle.checker.specs.Refusals.{sizeChecks, Run, start, onwards, firstRefusal, refusal, events}
 use Rattle.checker.proofs.Refusing.{size-passed, refusal-on}
 use Rattle.checker.proofs.Looked.{no-fault}
 use Rattle.checker.proofs.Passed.{InForm}

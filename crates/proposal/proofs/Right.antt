@@ -11,7 +11,7 @@ use lib.Dec.{T, eqb, leb}
 use borrow.Author.Tests.{eqb-true, leb-true}
 use Rattle.record.specs.declared.Event.{Event}
 use Rattle.record.specs.Faults.{firstFault}
-use Rattle.record.specs.Record.{event, inRange}
+use Rattle.record.specs.Record.{event, inRange, recordsOf}
 use Rattle.record.proofs.Laws.{none-first}
 use Rattle.replay.specs.Machine.{fresh, possible}
 use Rattle.replay.specs.Machine.{after as state-after}
@@ -25,7 +25,7 @@ use Rattle.graph.specs.Violation.{edgesUpTo, cyclicUpTo, shortest}
 use Rattle.graph.proofs.Meaning.{cycle-stays}
 use Rattle.checker.specs.Examined.{inputChecks}
 use Rattle.checker.specs.Refusals as Checker
-use Rattle.checker.specs.Refusals.{recordsOf, start, firstRefusal, events}
+use Rattle.checker.specs.Refusals.{start, firstRefusal, events}
 use Rattle.checker.proofs.Refusing.{Sized, sized, size-passed}
 use Rattle.checker.proofs.Refusing.{sizes-passed as checker-passed}
 use Rattle.checker.proofs.Passed.{passed, records-sized}

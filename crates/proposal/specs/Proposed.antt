@@ -7,12 +7,12 @@ use lib.ListN.{length, replicate}
 use lib.Dec.{leb}
 use Rattle.record.specs.declared.Event.{Event}
 use Rattle.record.specs.Faults.{Check, check, firstFault}
-use Rattle.record.specs.Record.{encoded}
+use Rattle.record.specs.Record.{encoded, recordsOf}
 use Rattle.trace.specs.Lists.{keep, each, over}
 use Rattle.graph.specs.Arranged.{workSize}
 use Rattle.checker.specs.Verdict.{Numbers}
 use Rattle.checker.specs.Examined.{inputChecks}
-use Rattle.checker.specs.Refusals.{Fault, start, firstRefusal, recordsOf, events}
+use Rattle.checker.specs.Refusals.{Fault, start, firstRefusal, events}
 use Rattle.proposal.specs.declared.Proposed.{Proposed}
 use Rattle.proposal.specs.declared.Proposed.the-variants.{Finished, Refused}
 use Rattle.proposal.specs.Walk.{Placed, eventsIn, finished, stop}

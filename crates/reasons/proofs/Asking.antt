@@ -8,7 +8,7 @@ use mathlib.Core.List.{List, []}
 use lib.ListN.{length, drop, take, length-append}
 use borrow.Author.Tests.{lt-ltb}
 use Rattle.record.specs.declared.Event.{Event}
-use Rattle.record.specs.Record.{inTwo}
+use Rattle.record.specs.Record.{inTwo, recordsOf}
 use Rattle.trace.specs.Lists.{each, over, below}
 use Rattle.trace.proofs.Lists.{Earliest, earliest}
 use Rattle.graph.specs.Transactions.{Labelled, labelled}
@@ -20,7 +20,7 @@ use Rattle.checker.specs.declared.Answer.the-variants as Checker
 use Rattle.checker.specs.declared.Refusal.{Refusal}
 use Rattle.checker.specs.Verdict.{cooperable, violation}
 use Rattle.checker.specs.Verdict as Verdict
-use Rattle.checker.specs.Refusals.{Fault, start, recordsOf, firstRefusal, refusal, events}
+use Rattle.checker.specs.Refusals.{Fault, start, firstRefusal, refusal, events}
 use Rattle.checker.specs.Judged.{Judged, judged}
 use Rattle.checker.specs.Examined.{inputRefusal, Examination, examined}
 use Rattle.checker.specs.Demand3.{numbersIn}

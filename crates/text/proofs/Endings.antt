@@ -9,12 +9,12 @@ use borrow.Author.Tests.{le-leb, lt-leb, eq-eqb, ne-eqb}
 use Rattle.trace.specs.Lists.{each, over}
 use Rattle.record.specs.declared.Event.{Event}
 use Rattle.record.specs.Faults.{firstFault}
-use Rattle.record.specs.Record.{encoded, decoded}
+use Rattle.record.specs.Record.{encoded, decoded, recordsOf}
 use Rattle.text.specs.declared.Refusal.{Refusal}
 use Rattle.text.specs.declared.Outcome.{Outcome}
 use Rattle.text.specs.declared.Outcome.the-variants.{Done, Refused}
 use Rattle.text.specs.Line.{lineOf, lineRead}
-use Rattle.text.specs.File.{numbers, ending, done, refused, Fault, firstRefused, events, feeds, lines, readChecks, readText, recordsOf, writeChecks, writeText}
+use Rattle.text.specs.File.{numbers, ending, done, refused, Fault, firstRefused, events, feeds, lines, readChecks, readText, writeChecks, writeText}
 use Rattle.text.specs.Steps.{Told, allBytes}
 use Rattle.text.proofs.Words.{lines-together}
 use Rattle.text.proofs.Files.{none-read, line-counted, text-written, feeds-written, length-records, read-size, read-line-refused, read-done, write-size, write-record-refused, write-unfit, write-done, read-sizes, write-sizes}

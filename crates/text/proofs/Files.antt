@@ -17,10 +17,10 @@ use Rattle.record.specs.declared.Fault.{Fault as Refusal}
 use Rattle.record.specs.declared.Decoded.{Decoded}
 use Rattle.record.specs.declared.Decoded.the-variants.{Good, Refused}
 use Rattle.record.specs.Faults.{firstFault}
-use Rattle.record.specs.Record.{sizeCheck, checks, event, encoded, decoded, inRange}
+use Rattle.record.specs.Record.{sizeCheck, checks, event, encoded, decoded, inRange, records, recordsOf}
 use Rattle.record.proofs.Laws.{none-first, decode-encoded, encode-decoded, decoded-range, length-encoded, decoded-passed, decoded-failed}
 use Rattle.text.specs.Line.{lineFeed, spaced, wordsOf, lineOf, lineRead}
-use Rattle.text.specs.File.{Ending, done, refused, Fault, firstRefused, found, events, feeds, lines, readChecks, readText, records, recordsOf, writeChecks, writeText}
+use Rattle.text.specs.File.{done, refused, Fault, firstRefused, found, events, feeds, lines, readChecks, readText, writeChecks, writeText}
 use Rattle.text.specs.Demands.{Ended, result}
 use Rattle.text.proofs.Words.{lacks, lacks-first, lines-first, lines-together}
 use Rattle.text.proofs.Lines.{body-lacks, read-written, written-read, Fourteen, line-fourteen}

@@ -18,11 +18,11 @@ use Rattle.record.specs.declared.Event.{Event}
 use Rattle.record.specs.declared.Fault.{Fault as Refusal}
 use Rattle.record.specs.declared.Decoded.{Decoded}
 use Rattle.record.specs.declared.Decoded.the-variants.{Good, Refused}
-use Rattle.record.specs.Record.{encoded, encodedOver, encodedSize}
+use Rattle.record.specs.Record.{encoded, encodedOver, encodedSize, records, recordsOf}
 use Rattle.record.proofs.Laws.{encoded-over, size-over, length-encoded}
 use Rattle.text.specs.declared.making.Line.{Line}
 use Rattle.text.specs.Line.{lineFeed, glued, lineOf, lineOver, lineRoom}
-use Rattle.text.specs.File.{firstRefused, found, events, feeds, lines, records, recordsOf}
+use Rattle.text.specs.File.{firstRefused, found, events, feeds, lines}
 use Rattle.text.specs.Steps.{before, lineSize, LineEnd, faultNumber, partBytes, allBytes, Holds}
 use Rattle.text.proofs.Words.{lines-cut, lines-on}
 use Rattle.text.proofs.Files.{first-good, first-refused}

@@ -1,15 +1,15 @@
 -- Whole files: a text read into records, and records written as a text, with all refusals (document 02, L4).
-use Prim.Native.Nat.{ℕ, zero, suc, _*_, _/_, _%_}
+use Prim.Native.Nat.{ℕ, zero, suc, _*_, _%_}
 use mathlib.Core.Bool.{true, false}
 use mathlib.Core.List.{List, [], _∷_}
-use lib.ListN.{length, take, drop}
+use lib.ListN.{length}
 use lib.Dec.{leb, eqb}
 use Rattle.trace.specs.Lists.{keep, each, over}
 use Rattle.record.specs.declared.Event.{Event}
 use Rattle.record.specs.declared.Decoded.{Decoded}
 use Rattle.record.specs.declared.Decoded.the-variants.{Good, Refused}
 use Rattle.record.specs.Faults.{Check, check, firstFault}
-use Rattle.record.specs.Record.{recordSize, encoded, decoded}
+use Rattle.record.specs.Record.{recordSize, encoded, decoded, recordsOf}
 use Rattle.text.specs.declared.Outcome.{Outcome}
 use Rattle.text.specs.declared.Outcome.the-variants.{Done, Refused as Denied}
 use Rattle.text.specs.Line.{lineFeed, glued, lineOf, lineRead}
@@ -90,14 +90,6 @@ readText text out =
 
 -- ---- Writing a text
 
--- the first n records of 8 bytes, and all of a file's
-unfoldable pub records : ℕ → List ℕ → List (List ℕ)
-records zero bs = []
-records (suc n) bs = take recordSize bs ∷ records n (drop recordSize bs)
-
-abbrev pub recordsOf : List ℕ → List (List ℕ)
-recordsOf input = records (length input / recordSize) input
-
 -- 1: length isn't a multiple of 8.  2: length is over 8,192
 unfoldable pub writeChecks : List ℕ → List Check
 writeChecks input = check 1 0 (eqb (length input % recordSize) 0) ∷ check 2 0 (leb (length input) 8192) ∷ []
@@ -118,5 +110,5 @@ writeText input out =
 
 -- Everything above, opened at once, for a proof by computation: `unfolding opened`
 unfoldable pub opened : Unit {0}
-unfolding Rattle.text.specs.Line.opened Rattle.record.specs.Faults.opened Rattle.trace.specs.Lists.opened done refused firstRefused events feeds lines readChecks readText records writeChecks writeText
+unfolding Rattle.text.specs.Line.opened Rattle.record.specs.Faults.opened Rattle.trace.specs.Lists.opened done refused firstRefused events feeds lines readChecks readText writeChecks writeText
 opened = tt

@@ -9,9 +9,9 @@ ghost use mathlib.Core.Path.{_≡_};
 ghost use Prim.Native.Nat.{_%_, _≤_, _<_};
 ghost use lib.ListN.{length};
 ghost use Rattle.trace.specs.Lists.{over};
-ghost use Rattle.record.specs.Record.{encoded, decoded};
+ghost use Rattle.record.specs.Record.{encoded, decoded, recordsOf};
 ghost use Rattle.text.specs.Line.{lineOf, lineRead};
-ghost use Rattle.text.specs.File.{firstRefused, lines, recordsOf};
+ghost use Rattle.text.specs.File.{firstRefused, lines};
 ghost use Rattle.text.specs.File.{feeds as File·feeds};
 ghost use Rattle.text.specs.Steps.{LineEnd, faultNumber, Told, partBytes, allBytes};
 

@@ -1,8 +1,7 @@
 -- `checker::writing::write_cycle` meets its contract: two stores for each transaction.
-use Prim.Native.Nat.{ℕ, _+_, _*_, _/_, _%_, _-_, _≤_, _<_}
+use Prim.Native.Nat.{ℕ, _+_, _*_, _/_, _%_, _-_, _≤_}
 use native.Mathlib.Omega.{arith}
-use mathlib.Core.Path.{_≡_, refl}
-use mathlib.Core.List.{List}
+use mathlib.Core.Path.{refl}
 use lib.ListN.{length, getD, length-set}
 use Rattle.record.specs.Record.{inTwo}
 use Rattle.trace.specs.Lists.{each}

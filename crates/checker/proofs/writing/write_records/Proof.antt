@@ -1,30 +1,33 @@
 -- `checker::writing::write_records` meets its contract: one record after the other into the rest of the output.
-use Prim.Native.Nat.{ℕ, _+_, _*_, _/_, _-_, _≤_, _<_}
+use Prim.Native.Nat.{_+_, _/_, _-_, _≤_, _<_}
 use native.Mathlib.Omega.{arith}
-use mathlib.Core.Path.{ap, _∙_}
-use mathlib.Core.List.{List}
-use lib.ListN.{length, getD, take, drop, length-drop}
-use Rattle.trace.specs.Lists.{each, over}
-use Rattle.checker.specs.Writing.{recordIn}
-use Rattle.checker.proofs.Written.{Going, going-start, going-room, going-more, going-end, length-each-at, written-rest}
-use Rattle.checker.proofs.Scanned.{bytes-size, part-is, part-size}
+use mathlib.Core.Path.{_≡_, ap, _∙_}
+use lib.ListN.{length, getD}
+use borrow.Author.Needs.{needs}
+use Rattle.record.specs.declared.Event.{Event}
+use Rattle.record.specs.Record.{event, encoded}
+use Rattle.record.proofs.Laws.{size-most, length-encoded}
+use Rattle.trace.specs.Lists.{each}
+use Rattle.checker.specs.Writing.{writtenAt, recordIn, bytesIn}
+use Rattle.checker.proofs.Written.{Going, going-start, going-room, going-more, going-end, length-each, written-part, written-size}
+use Rattle.checker.proofs.Scanned.{part-is}
 use Rattle.checker.proofs.writing.write_records.Statement.{statement}
 use Rattle.checker.proofs.writing.write_records.Tie as tie
 
 abbrev Inv-loop : tie.InvT-loop
-Inv-loop input numbers out₀ k₀ out k = (k ≤ length numbers) × Going (recordIn input) numbers out₀ out (8 * k) k
+Inv-loop input numbers out₀ n₀ k₀ out n k = (k ≤ length numbers) × Going (bytesIn input) numbers out₀ out n k
 
 abbrev μ-loop : tie.MeasureT-loop
-μ-loop input numbers out₀ k₀ out k = length numbers - k
+μ-loop input numbers out₀ n₀ k₀ out n k = length numbers - k
 
 -- all records fit
 fits : (c : tie.At-loop Inv-loop μ-loop) →
     let a = c .before .before .before .before .args in
-    length (each (recordIn (a .input .now)) (a .numbers .now)) ≤ length (a .out .now)
+    length (each (bytesIn (a .input .now)) (a .numbers .now)) ≤ length (a .out .now)
 fits c =
     let s = c .before .before .before .before in
     let a = s .args in
-    omega (arith, s .pre .1, length-each-at (recordIn (a .input .now)) 8 (a .numbers .now) (λ k h. bytes-size (a .input .now) (getD (a .numbers .now) k 0) (s .pre .0 k h)))
+    omega (arith, s .pre .1, length-each (bytesIn (a .input .now)) 8 (λ i. length-encoded (event (recordIn (a .input .now) i))) (a .numbers .now))
 
 -- the next is one of the recording's
 low : (c : tie.In-loop Inv-loop μ-loop) →
@@ -33,20 +36,18 @@ low : (c : tie.In-loop Inv-loop μ-loop) →
 low c = c .before .before .before .before .before .pre .0 (c .before .loop .k) (omega arith)
 
 -- and there is room for it
-room : (c : tie.In-loop Inv-loop μ-loop) → 8 * c .before .loop .k + 8 ≤ length (c .before .loop .out)
+room : (c : tie.In-loop Inv-loop μ-loop) → c .before .loop .n + 8 ≤ length (c .before .loop .out)
 room c =
     let at = c .before in
     let a = at .before .before .before .before .args in
     omega (
       arith,
-      going-room (recordIn (a .input .now)) (a .numbers .now) (a .out .now) (at .loop .out) (8 * at .loop .k) (at .loop .k) (fits at) (omega arith) (at .loop .inv .1),
-      bytes-size (a .input .now) (getD (a .numbers .now) (at .loop .k) 0) (low c),
+      going-room (bytesIn (a .input .now)) (a .numbers .now) (a .out .now) (at .loop .out) (at .loop .n) (at .loop .k) (fits at) (omega arith) (at .loop .inv .1),
+      length-encoded (event (recordIn (a .input .now) (getD (a .numbers .now) (at .loop .k) 0))),
     )
 
 loop-holds : tie.Need-loop-holds Inv-loop μ-loop
-loop-holds c =
-    let a = c .before .before .before .args in
-    (omega arith, going-start (recordIn (a .input .now)) (a .numbers .now) (a .out .now))
+loop-holds c = let a = c .before .before .before .args in (omega arith, going-start (bytesIn (a .input .now)) (a .numbers .now) (a .out .now))
 
 mul-at : tie.Need-mul-at Inv-loop μ-loop
 mul-at c = omega arith
@@ -60,35 +61,35 @@ cast-at c = omega (arith, low (c .before))
 mul-at-2 : tie.Need-mul-at-2 Inv-loop μ-loop
 mul-at-2 c = omega (arith, low (c .before))
 
-add-copy : tie.Need-add-copy Inv-loop μ-loop
-add-copy c = omega (arith, low (c .before))
+add-event-of : tie.Need-add-event-of Inv-loop μ-loop
+add-event-of c = omega (arith, low (c .before))
 
-sub-copy : tie.Need-sub-copy Inv-loop μ-loop
-sub-copy c = omega (arith, low (c .before))
+sub-event-of : tie.Need-sub-event-of Inv-loop μ-loop
+sub-event-of c = omega (arith, low (c .before))
 
-part-copy-start : tie.Need-part-copy-start Inv-loop μ-loop
-part-copy-start c = omega (arith, low (c .before))
+part-event-of-start : tie.Need-part-event-of-start Inv-loop μ-loop
+part-event-of-start c = omega (arith, low (c .before))
 
-part-copy-end : tie.Need-part-copy-end Inv-loop μ-loop
-part-copy-end c = omega (arith, low (c .before))
+part-event-of-end : tie.Need-part-event-of-end Inv-loop μ-loop
+part-event-of-end c = omega (arith, low (c .before))
 
-mul-copy : tie.Need-mul-copy Inv-loop μ-loop
-mul-copy c = omega (arith, room (c .before .before))
+event-of-requires : tie.Need-event-of-requires Inv-loop μ-loop
+event-of-requires c κs = search needs
 
-sub-copy-2 : tie.Need-sub-copy-2 Inv-loop μ-loop
-sub-copy-2 c = omega (arith, room (c .before .before))
+sub-encode : tie.Need-sub-encode Inv-loop μ-loop
+sub-encode c = omega (arith, room (c .before .before .before))
 
-part-copy-start-2 : tie.Need-part-copy-start-2 Inv-loop μ-loop
-part-copy-start-2 c = omega (arith, room (c .before .before))
+part-encode-start : tie.Need-part-encode-start Inv-loop μ-loop
+part-encode-start c = omega (arith, room (c .before .before .before))
 
-part-copy-end-2 : tie.Need-part-copy-end-2 Inv-loop μ-loop
-part-copy-end-2 c = omega (arith, room (c .before .before))
+part-encode-end : tie.Need-part-encode-end Inv-loop μ-loop
+part-encode-end c = omega (arith, room (c .before .before .before))
 
-copy-requires : tie.Need-copy-requires Inv-loop μ-loop
-copy-requires c κs =
-    let at = c .before .before .before .before in
-    let input : List ℕ = at .before .before .before .before .args .input .now in
-    (part-size input _ (low (c .before .before .before)), omega (arith, room (c .before .before .before), length-drop (8 * at .loop .k) (at .loop .out)))
+encode-requires : tie.Need-encode-requires Inv-loop μ-loop
+encode-requires c κs = search needs
+
+add-n : tie.Need-add-n Inv-loop μ-loop
+add-n c = omega (arith, room (c .before .before .before .before .before .before .before), size-most _ _ (c .before .before .encode .ensures .0))
 
 add-k : tie.Need-add-k Inv-loop μ-loop
 add-k c = omega arith
@@ -98,15 +99,16 @@ loop-less c = omega arith
 
 loop-again : tie.Need-loop-again Inv-loop μ-loop
 loop-again c =
-    let at = c .before .before .before .before .before .before .before in
+    let at = c .before .before .before .before .before .before .before .before in
     let a = at .before .before .before .before .args in
-    let i : ℕ = getD (a .numbers .now) (at .loop .k) 0 in
-    let r = room (c .before .before .before .before .before .before) in
-    let rest : List ℕ = take (length (at .loop .out) - 8 * at .loop .k) (drop (8 * at .loop .k) (at .loop .out)) in (
+    let e : Event = c .before .before .before .before .event-of .result in
+    let is : encoded e ≡ bytesIn (a .input .now) (getD (a .numbers .now) (at .loop .k) 0) = ap encoded (c .before .before .before .before .event-of .ensures ∙ ap event (part-is (a .input .now) (getD (a .numbers .now) (at .loop .k) 0))) in
+    let r : at .loop .n + length (encoded e) ≤ length (at .loop .out) = omega (arith, room (c .before .before .before .before .before .before .before), length-encoded e) in
+    let w = c .before .before .encode .ensures in (
       omega arith,
-      going-more (recordIn (a .input .now)) (a .numbers .now) (a .out .now) (at .loop .out) (8 * at .loop .k) (at .loop .k) _ (8 * (at .loop .k + 1)) (fits at) (omega arith) (at .loop .inv .1)
-          (written-rest (recordIn (a .input .now) i) (at .loop .out) (8 * at .loop .k) (omega arith) _ (c .before .before .copy .ensures ∙ ap (λ l. over l rest) (part-is (a .input .now) i)))
-          (omega (arith, bytes-size (a .input .now) i (low (c .before .before .before .before .before .before)))),
+      going-more (bytesIn (a .input .now)) (a .numbers .now) (a .out .now) (at .loop .out) (at .loop .n) (at .loop .k) _ _ (fits at) (omega arith) (at .loop .inv .1)
+          (written-part e (at .loop .out) (at .loop .n) r _ (w .1) ∙ ap (writtenAt (at .loop .out) (at .loop .n)) is)
+          (ap (λ m. at .loop .n + m) (w .0 ∙ written-size e (at .loop .out) (at .loop .n) r ∙ ap length is)),
     )
 
 same-length : tie.Need-same-length Inv-loop μ-loop
@@ -116,7 +118,7 @@ returns : tie.Need-returns Inv-loop μ-loop
 returns c =
     let a = c .before .before .before .before .before .args in
     let at = c .before .loop in
-    going-end (recordIn (a .input .now)) (a .numbers .now) (a .out .now) (at .out) (8 * at .k) (at .k) (omega arith) (at .inv .1)
+    going-end (bytesIn (a .input .now)) (a .numbers .now) (a .out .now) (at .out) (at .n) (at .k) (omega arith) (at .inv .1)
 
 pub write-records-spec : {M : Type 1} → statement M
 write-records-spec =
@@ -129,15 +131,16 @@ write-records-spec =
     shared-slice-read-at
     cast-at
     mul-at-2
-    add-copy
-    sub-copy
-    part-copy-start
-    part-copy-end
-    mul-copy
-    sub-copy-2
-    part-copy-start-2
-    part-copy-end-2
-    copy-requires
+    add-event-of
+    sub-event-of
+    part-event-of-start
+    part-event-of-end
+    event-of-requires
+    sub-encode
+    part-encode-start
+    part-encode-end
+    encode-requires
+    add-n
     add-k
     loop-less
     loop-again

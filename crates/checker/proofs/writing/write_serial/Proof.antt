@@ -7,7 +7,7 @@ use lib.ListN.{length, take}
 use lib.Seq.{length-take-le}
 use borrow.Author.Needs.{needs}
 use Rattle.trace.specs.Lists.{each, over}
-use Rattle.checker.specs.Writing.{recordIn, Numbering, numbersOf}
+use Rattle.checker.specs.Writing.{bytesIn, Numbering, numbersOf}
 use Rattle.checker.proofs.Linking.{numbers-below, lined-up}
 use Rattle.checker.proofs.writing.write_serial.Statement.{statement}
 use Rattle.checker.proofs.writing.write_serial.Tie as tie
@@ -53,7 +53,7 @@ returns : tie.Need-returns
 returns c =
     let s = c .before .before .before .before .before .before .before .before .before .before .before .before in
     c .before .before .write-records .ensures
-    ∙ ap (λ l. over (each (recordIn (s .args .input .now)) l) (s .args .out .now)) (lined (c .before .before .before .before .before .before))
+    ∙ ap (λ l. over (each (bytesIn (s .args .input .now)) l) (s .args .out .now)) (lined (c .before .before .before .before .before .before))
 
 pub write-serial-spec : {M : Type 1} → statement M
 write-serial-spec =

@@ -5,8 +5,8 @@ use mathlib.Core.Path.{_≡_, refl, sym, ap, _∙_}
 use mathlib.Core.List.{List}
 use lib.ListN.{length, take, drop}
 use borrow.Author.Needs.{needs}
-use Rattle.record.specs.Record.{decoded}
-use Rattle.text.specs.File.{firstRefused, recordsOf}
+use Rattle.record.specs.Record.{decoded, recordsOf}
+use Rattle.text.specs.File.{firstRefused}
 use Rattle.text.specs.Steps.{faultNumber}
 use Rattle.text.proofs.Files.{record-counted}
 use Rattle.text.proofs.Wholes.{records-at, records-end, refusal-on, refusal-here, refusal-end}

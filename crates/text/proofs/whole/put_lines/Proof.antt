@@ -5,9 +5,8 @@ use mathlib.Core.Path.{_≡_, sym, ap, subst}
 use mathlib.Core.List.{List}
 use lib.ListN.{length, take, drop, length-drop, length-append}
 use borrow.Author.Needs.{needs}
-use Rattle.record.specs.Record.{decoded}
+use Rattle.record.specs.Record.{decoded, recordsOf}
 use Rattle.text.specs.Line.{lineOf}
-use Rattle.text.specs.File.{recordsOf}
 use Rattle.text.specs.Steps.{partBytes, allBytes}
 use Rattle.text.proofs.Readings.{rest-is}
 use borrow.Rule.Slice.PartMut.{putMid}

@@ -5,9 +5,8 @@ use mathlib.Core.Path.{_≡_, ap}
 use mathlib.Core.List.{List}
 use lib.ListN.{length, take, drop, length-append}
 use borrow.Author.Needs.{needs}
-use Rattle.record.specs.Record.{decoded}
+use Rattle.record.specs.Record.{decoded, recordsOf}
 use Rattle.text.specs.Line.{lineOf}
-use Rattle.text.specs.File.{recordsOf}
 use Rattle.text.specs.Steps.{partBytes, allBytes}
 use Rattle.text.proofs.Wholes.{records-at, records-end, bytes-on, bytes-end}
 use Rattle.text.proofs.whole.text_size.Statement.{statement}
