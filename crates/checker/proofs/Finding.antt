@@ -9,7 +9,7 @@ use lib.ListN.{length, getD, take, drop, replicate}
 use lib.Seq.{take-suc, take-at, take-all}
 use borrow.Author.Tests.{eqb-true, leb-true, eq-eqb, le-leb}
 use Rattle.record.specs.declared.Event.{Event}
-use Rattle.record.specs.Faults.{check, firstFault}
+use Rattle.record.specs.Faults.{Check, check, firstFault}
 use Rattle.record.specs.Record.{event, recordsOf}
 use Rattle.record.proofs.Laws.{Counted, none-first, first-of-both, second-of-both}
 use Rattle.trace.specs.Lists.{over}
@@ -47,15 +47,22 @@ unfolding inputChecks
 inputs-counted input = (omega arith, (omega arith, tt))
 
 -- they are the first of 1 to 4
+-- 1 and 2 go first, whatever is tried after them
+pub inputs-first : (input : List ℕ) (more : List Check) (n : ℕ) → n ≡ firstFault (inputChecks input) → n ≢ 0 → n ≡ firstFault (inputChecks input ++ more)
+inputs-first input more zero h some = absurd (some refl)
+inputs-first input more (suc n) h some = sym (first-of-both (inputChecks input) more n (sym h))
+
+pub inputs-next : (input : List ℕ) (more : List Check) → firstFault (inputChecks input) ≡ 0 → firstFault (inputChecks input ++ more) ≡ firstFault more
+inputs-next input more h = second-of-both (inputChecks input) more (inputs-counted input) h
+
 pub size-first : (input out work : List ℕ) (n : ℕ) → n ≡ firstFault (inputChecks input) → n ≢ 0 → n ≡ firstFault (sizeChecks input out work)
 unfolding inputChecks sizeChecks
-size-first input out work zero h some = absurd (some refl)
-size-first input out work (suc n) h some = sym (first-of-both (inputChecks input) _ n (sym h))
+size-first input out work n h some = inputs-first input _ n h some
 
 pub size-next : (input out work : List ℕ) → firstFault (inputChecks input) ≡ 0
     → firstFault (sizeChecks input out work) ≡ firstFault (check 3 0 (leb (length input) (length out)) ∷ check 4 0 (leb workSize (length work)) ∷ [])
 unfolding inputChecks sizeChecks
-size-next input out work h = second-of-both (inputChecks input) _ (inputs-counted input) h
+size-next input out work h = inputs-next input _ h
 
 -- what has passed 1 to 4 has passed 1 and 2
 pub input-sized : (input out work : List ℕ) → firstFault (sizeChecks input out work) ≡ 0 → firstFault (inputChecks input) ≡ 0

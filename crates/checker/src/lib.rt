@@ -44,8 +44,8 @@ pub struct Examined {
     pub refusal: Refusal,
 }
 
-// Numbers 1 and 2, tried in that order; 0 where none is given.
-fn input_fault(input: &[u8]) -> u8
+// Numbers 1 and 2, tried in that order; 0 where none is given. Whatever reads a recording tries them first.
+pub fn input_fault(input: &[u8]) -> u8
     ensures { λ r. ⌜ r ≡ firstFault (inputChecks (now (input .entry))) ⌝ }
 {
     if input.len() % 8 != 0 {

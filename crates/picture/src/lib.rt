@@ -17,11 +17,9 @@ pub enum Drawn {
 fn size_fault(input: &[u8], work: &[u64]) -> u8
     ensures { λ r. ⌜ r ≡ firstFault (sizeChecks (now (input .entry)) (now (work .entry))) ⌝ }
 {
-    if input.len() % 8 != 0 {
-        return 1;
-    }
-    if 8192 < input.len() {
-        return 2;
+    let number = checker::input_fault(input);
+    if number != 0 {
+        return number;
     }
     if work.len() < 4096 {
         return 4;
