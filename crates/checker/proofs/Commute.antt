@@ -15,8 +15,8 @@ use Rattle.replay.specs.Machine.{unknown, known, unforked, forked, joined, faul
 use Rattle.graph.specs.Conflict as Conflict
 use Rattle.graph.specs.Conflict.{conflict}
 use Rattle.graph.specs.Swaps.{Swaps}
-use Rattle.trace.proofs.Tests.{by-same, and-left, and-right, and-both, or-cases, or-left, or-right}
-use Rattle.trace.proofs.Lists.{Every, every-pair}
+use Rattle.lists.proofs.Tests.{by-same, and-left, and-right, and-both, or-cases, or-left, or-right}
+use Rattle.lists.proofs.Lists.{Every, every-pair}
 use Rattle.trace.proofs.Runs.{Runs, Exchange, swaps-run, parts-exchange}
 use Rattle.trace.proofs.Runs.Runs.{stops, goes}
 use Rattle.trace.proofs.Cells.{Cell, Touch, cell, changes, can, does, readers-exchange, apart-exchange, twins-exchange}

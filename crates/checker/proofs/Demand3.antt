@@ -11,9 +11,9 @@ use Rattle.record.specs.declared.Decoded.the-variants.{Good}
 use Rattle.record.specs.Record.{event, decoded, encoded, inTwo, inRange, records, recordsOf}
 use Rattle.record.proofs.Laws.{decoded-good, decoded-range, decode-encoded}
 use Rattle.replay.specs.Machine.{fresh, possible}
-use Rattle.trace.specs.Lists.{each, over}
+use Rattle.lists.specs.Lists.{each, over}
 use Rattle.trace.specs.Paths.{Cycle}
-use Rattle.trace.proofs.Lists.{Among, among-cons, Every}
+use Rattle.lists.proofs.Lists.{Among, among-cons, Every}
 use Rattle.trace.proofs.Swaps.{swaps-back, among-swaps, length-swaps}
 use Rattle.trace.proofs.Reach.{cycle-means, cycle-made}
 use Rattle.graph.specs.Conflict.{conflict}

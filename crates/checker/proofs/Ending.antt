@@ -7,7 +7,7 @@ use lib.ListN.{length, take, drop}
 use lib.Seq.{length-take-le, take-at, take-all}
 use Rattle.record.specs.declared.Event.{Event}
 use Rattle.record.specs.Record.{encoded, inTwo}
-use Rattle.trace.specs.Lists.{each, over}
+use Rattle.lists.specs.Lists.{each, over}
 use Rattle.graph.specs.declared.Arranged.{Arranged}
 use Rattle.graph.specs.declared.Arranged.the-variants.{Unfit, Ordered, Cyclic}
 use Rattle.graph.specs.declared.label.Labelling.the-variants.{Done}

@@ -12,8 +12,8 @@ use Rattle.record.specs.declared.Event.{Event}
 use Rattle.record.specs.Faults.{Check, check, firstFault}
 use Rattle.record.specs.Record.{event, recordsOf}
 use Rattle.record.proofs.Laws.{Counted, none-first, first-of-both, second-of-both}
-use Rattle.trace.specs.Lists.{over}
-use Rattle.trace.proofs.Lists.{map-append}
+use Rattle.lists.specs.Lists.{over}
+use Rattle.lists.proofs.Lists.{map-append}
 use Rattle.graph.specs.Transactions.{none-yet, Labelled, labelledFrom, labelled, tallyFrom, transactions}
 use Rattle.graph.specs.Arranged.{workSize}
 use Rattle.graph.specs.Engine.{recordAt, held}

@@ -12,9 +12,9 @@ use lib.Seq.{getD-set-same, getD-set-other}
 use borrow.Author.Tests.{ltb-true, ltb-false, lt-ltb, le-ltb, eq-eqb, ne-eqb}
 use Rattle.record.specs.declared.Event.{Event}
 use Rattle.record.specs.Record.{encoded}
-use Rattle.trace.specs.Lists.{each, over, keep, firstOf, from}
-use Rattle.trace.proofs.Tests.{by, by-same}
-use Rattle.trace.proofs.Lists.{from-step, from-none, first-true, first-false, keep-true, keep-false, map-append}
+use Rattle.lists.specs.Lists.{each, over, keep, firstOf, from}
+use Rattle.lists.proofs.Tests.{by, by-same}
+use Rattle.lists.proofs.Lists.{from-step, from-none, first-true, first-false, keep-true, keep-false, map-append}
 use Rattle.graph.specs.Transactions.{Labelled}
 use Rattle.graph.specs.Serial.{eventsOf, threadOf}
 use Rattle.graph.specs.Engine.{pastEnd, recordAt, held}

@@ -11,8 +11,8 @@ use borrow.Author.Tests.{leb-false, le-leb}
 use Rattle.record.specs.declared.Event.{Event}
 use Rattle.record.specs.Faults.{firstFault}
 use Rattle.record.specs.Record.{event, recordsOf}
-use Rattle.trace.specs.Lists.{each, over}
-use Rattle.trace.proofs.Tests.{by}
+use Rattle.lists.specs.Lists.{each, over}
+use Rattle.lists.proofs.Tests.{by}
 use Rattle.graph.specs.Transactions.{Tally, none-yet, begins, full, tallied, tallyFrom, transactions}
 use Rattle.graph.specs.declared.Arranged.{Arranged}
 use Rattle.graph.specs.Violation.{shortest}

@@ -11,7 +11,7 @@ use Rattle.record.specs.declared.Event.{Event}
 use Rattle.record.specs.Record.{event, records, recordsOf}
 use Rattle.replay.specs.declared.State.{State}
 use Rattle.replay.specs.Machine.{fresh}
-use Rattle.trace.specs.Lists.{over}
+use Rattle.lists.specs.Lists.{over}
 use Rattle.graph.specs.Transactions.{Tally, none-yet, Labelled, belongs, tallied, tallyFrom, labelledFrom, labelled}
 use Rattle.graph.specs.Engine.{pastEnd}
 use Rattle.graph.proofs.Numbers.{labelled-take}

@@ -17,8 +17,8 @@ use Rattle.record.specs.Record.{kind, target, value, targetLimit, inRange}
 use Rattle.record.proofs.Laws.{none-first}
 use Rattle.replay.specs.declared.State.{State}
 use Rattle.replay.specs.Machine as Machine
-use Rattle.trace.proofs.Tests.{by, by-same, T-of, or-left, or-right, and-left, and-right, and-both}
-use Rattle.trace.proofs.Lists.{Among}
+use Rattle.lists.proofs.Tests.{by, by-same, T-of, or-left, or-right, and-left, and-right, and-both}
+use Rattle.lists.proofs.Lists.{Among}
 use Rattle.graph.specs.Conflict.{forks, joins}
 use Rattle.thin.specs.Orderly.{ranged, unseen, seen, ended, lifeOf, fitting, livesAfter, orderlyFrom, orderly}
 use Rattle.thin.proofs.Keys.{of-thread, of-target}

@@ -8,7 +8,7 @@ use lib.Dec.{eqb}
 use lib.ListN.{length, getD, set, take, drop, replicate}
 use Rattle.record.specs.declared.Event.{Event}
 use Rattle.record.specs.Record.{event}
-use Rattle.trace.specs.Lists.{over}
+use Rattle.lists.specs.Lists.{over}
 use Rattle.rows.specs.Bits.{begun, cleared}
 use Rattle.rows.proofs.Laws.{length-begun, rest-begun}
 use Rattle.graph.specs.declared.Arranged.the-variants.{Ordered}

@@ -11,8 +11,8 @@ use borrow.Rule.Slice.PartMut.{putMid}
 use Rattle.record.specs.declared.Event.{Event}
 use Rattle.record.specs.Record.{encoded, encodedOver, encodedSize}
 use Rattle.record.proofs.Laws.{encoded-over, size-over, length-encoded}
-use Rattle.trace.specs.Lists.{each, over}
-use Rattle.trace.proofs.Lists.{each-append}
+use Rattle.lists.specs.Lists.{each, over}
+use Rattle.lists.proofs.Lists.{each-append}
 use Rattle.graph.specs.Serial.{threadOf}
 use Rattle.graph.specs.Engine.{held}
 use Rattle.checker.specs.Report.{firstRecord}

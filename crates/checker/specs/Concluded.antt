@@ -7,7 +7,7 @@ use lib.Dec.{T}
 use lib.ListN.{length, take}
 use Rattle.record.specs.declared.Event.{Event}
 use Rattle.record.specs.Record.{recordSize}
-use Rattle.trace.specs.Lists.{each, over}
+use Rattle.lists.specs.Lists.{each, over}
 use Rattle.graph.specs.declared.Arranged.{Arranged}
 use Rattle.graph.specs.Transactions.{transactionLimit, labelled, transactions}
 use Rattle.graph.specs.Violation.{shortest}

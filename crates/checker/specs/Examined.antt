@@ -8,7 +8,7 @@ use Rattle.record.specs.declared.Event.{Event}
 use Rattle.record.specs.declared.Op.the-variants.{Yield}
 use Rattle.record.specs.Faults.{Check, check, firstFault}
 use Rattle.record.specs.Record.{recordSize, recordsOf}
-use Rattle.trace.specs.Lists.{over}
+use Rattle.lists.specs.Lists.{over}
 use Rattle.graph.specs.Transactions.{labelled}
 use Rattle.checker.specs.declared.Refusal.{Refusal}
 use Rattle.checker.specs.Refusals.{Fault, start, firstRefusal, events}

@@ -6,7 +6,7 @@ use lib.ListN.{replicate}
 use Rattle.record.specs.Faults as Faults
 use Rattle.record.specs.Record as Record
 use Rattle.replay.specs.Machine as Machine
-use Rattle.trace.specs.Lists as Lists
+use Rattle.lists.specs.Lists as Lists
 use Rattle.trace.specs.Paths as Paths
 use Rattle.trace.specs.Order as Order
 use Rattle.graph.specs.Conflict as Conflict

@@ -4,7 +4,7 @@ use mathlib.Core.Bool.{true, false}
 use mathlib.Core.List.{List, [], _∷_}
 use lib.Dec.{eqb}
 use Rattle.record.specs.declared.Event.{Event}
-use Rattle.trace.specs.Lists.{each, over}
+use Rattle.lists.specs.Lists.{each, over}
 use Rattle.graph.specs.Transactions.{Labelled, labelled}
 use Rattle.graph.specs.Serial.{threadOf}
 use Rattle.graph.specs.Violation.{shortest}

@@ -7,7 +7,7 @@ use mathlib.Core.List.{List, map}
 use Rattle.record.specs.Faults.{firstFault}
 use Rattle.record.specs.Record.{event}
 use Rattle.replay.specs.Machine.{stateOf}
-use Rattle.trace.specs.Lists.{over}
+use Rattle.lists.specs.Lists.{over}
 use Rattle.graph.specs.Transactions.{tallyOf, belongs, labelled, transactions}
 use Rattle.checker.specs.declared.examining.Seen.{Seen}
 use Rattle.checker.specs.declared.examining.Seen.the-variants.{Sound, Faulty}

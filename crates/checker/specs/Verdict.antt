@@ -4,7 +4,7 @@ use mathlib.Core.List.{List}
 use lib.ListN.{length}
 use Rattle.record.specs.declared.Event.{Event}
 use Rattle.record.specs.Record.{encoded, inTwo}
-use Rattle.trace.specs.Lists.{each}
+use Rattle.lists.specs.Lists.{each}
 use Rattle.graph.specs.Transactions.{transactions}
 use Rattle.graph.specs.Serial.{serialTrace}
 use Rattle.graph.specs.Violation.{shortest, cycleOf}

@@ -8,7 +8,7 @@ use lib.Dec.{eqb, ltb}
 use lib.ListN.{length, getD, take, drop}
 use Rattle.record.specs.declared.Event.{Event}
 use Rattle.record.specs.Record.{recordSize, event, encoded}
-use Rattle.trace.specs.Lists.{keep, firstOf, from}
+use Rattle.lists.specs.Lists.{keep, firstOf, from}
 use Rattle.graph.specs.Engine.{held}
 use Rattle.graph.specs.Serial.{threadOf}
 use Rattle.checker.specs.Report.{firstRecord}

@@ -8,7 +8,7 @@ ghost use mathlib.Core.Path.{_≡_};
 ghost use Prim.Native.Nat.{_/_, _≤_};
 ghost use lib.ListN.{length, take, replicate};
 ghost use Rattle.record.specs.Faults.{firstFault};
-ghost use Rattle.trace.specs.Lists.{over};
+ghost use Rattle.lists.specs.Lists.{over};
 ghost use Rattle.checker.specs.Refusals.{events};
 ghost use Rattle.checker.specs.Seeing.{runOf, Saw, SawAll};
 ghost use Rattle.checker.specs.Examined as Examined;

@@ -3,7 +3,7 @@ ghost use Prim.Native.Nat.{ℕ, _+_, _*_, _/_, _-_, _≤_};
 ghost use mathlib.Core.Path.{_≡_};
 ghost use lib.ListN.{length, getD};
 ghost use Rattle.record.specs.Record.{inTwo};
-ghost use Rattle.trace.specs.Lists.{each, over};
+ghost use Rattle.lists.specs.Lists.{each, over};
 ghost use Rattle.graph.specs.Engine.{Few};
 ghost use Rattle.checker.specs.Refusals.{events};
 ghost use Rattle.checker.specs.Writing.{writtenAt, bytesIn, lineOf, noRecord, Numbering, numbersOf, Linked, chain};

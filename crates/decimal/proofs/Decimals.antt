@@ -9,9 +9,9 @@ use lib.ListN.{length, getD, set, take, drop, replicate, length-append, List·ge
 use lib.Seq.{drop-cons, set-at, take-append-seam}
 use lib.Dec.{T, leb, ltb, eqb}
 use borrow.Author.Tests.{lt-ltb, le-ltb, le-leb, ltb-true, ltb-false, leb-true, leb-false, eqb-true, eq-eqb, not-true}
-use Rattle.trace.specs.Lists.{allOf, over}
-use Rattle.trace.proofs.Tests.{by, and-true}
-use Rattle.trace.proofs.Lists.{all-none, all-cons}
+use Rattle.lists.specs.Lists.{allOf, over}
+use Rattle.lists.proofs.Tests.{by, and-true}
+use Rattle.lists.proofs.Lists.{all-none, all-cons}
 use Rattle.decimal.specs.declared.Digits.{Digits}
 use Rattle.decimal.specs.Decimal.{digit, digits, decimal, written, isDigit, valueFrom, valueOf, zeroLed, isNumber}
 

@@ -4,7 +4,7 @@ use mathlib.Core.Bool.{Bool, true, false, not, _&&_}
 use mathlib.Core.List.{List, [], _∷_, _++_}
 use lib.ListN.{length, getD, replicate}
 use lib.Dec.{leb, ltb, eqb}
-use Rattle.trace.specs.Lists.{allOf, over}
+use Rattle.lists.specs.Lists.{allOf, over}
 use Rattle.decimal.specs.declared.Digits.{Digits}
 
 -- the byte of a digit

@@ -10,7 +10,7 @@ use lib.Seq.{take-all}
 use lib.Dec.{leb, leb→le}
 use borrow.Author.Tests.{le-leb, lt-leb, leb-false}
 use Rattle.record.specs.declared.Event.{Event}
-use Rattle.trace.specs.Lists.{firstOf, from, over}
+use Rattle.lists.specs.Lists.{firstOf, from, over}
 use Rattle.trace.specs.Paths.{reaches, cyclic}
 use Rattle.rows.specs.Bits.{has, cleared}
 use Rattle.graph.specs.declared.Arranged.{Arranged}
@@ -23,8 +23,8 @@ use Rattle.graph.specs.Violation.{edgesUpTo, cyclicUpTo, shortest, trans
 use Rattle.graph.specs.Arranged.{workSize, Arrangement, named, found, fits, arranged}
 use Rattle.graph.specs.Engine.{recordAt, held, Labels, Stands, Sought}
 use Rattle.graph.specs.Finished.{orderBy, walkBy, cycleBy, namedBy, foundBy, finished}
-use Rattle.trace.proofs.Tests.{by, T-of}
-use Rattle.trace.proofs.Lists.{Among, first-same, earliest}
+use Rattle.lists.proofs.Tests.{by, T-of}
+use Rattle.lists.proofs.Lists.{Among, first-same, earliest}
 use Rattle.rows.proofs.Laws.{cleared-is}
 use Rattle.graph.proofs.Numbers.{sane-none, labels-lt, labelled-take}
 use Rattle.graph.proofs.Round.{blank, number-at, labelled-length}

@@ -11,7 +11,7 @@ use lib.ListN.{length, take}
 use lib.Seq.{take-length}
 use lib.Dec.{T}
 use Rattle.record.specs.declared.Event.{Event}
-use Rattle.trace.specs.Lists.{someOf, from}
+use Rattle.lists.specs.Lists.{someOf, from}
 use Rattle.trace.specs.Paths.{Path, Cycle, cyclic}
 use Rattle.graph.specs.Conflict.{conflict}
 use Rattle.graph.specs.Transactions.{none-yet, Labelled, labelledFrom, labelled, transactions}
@@ -19,7 +19,7 @@ use Rattle.graph.specs.Swaps.{Swaps, Serial}
 use Rattle.graph.specs.Edges.{edges}
 use Rattle.graph.specs.Serial.{threadOf, serialOrder, serialTrace}
 use Rattle.graph.specs.Violation.{edgesUpTo, cyclicUpTo, shortest}
-use Rattle.trace.proofs.Lists.{before-take, first-some, first-none}
+use Rattle.lists.proofs.Lists.{before-take, first-some, first-none}
 use Rattle.trace.proofs.Swaps.{swaps-trans, swaps-back, swaps-map}
 use Rattle.trace.proofs.Together.{Edge, Way, no-serial, stand-same}
 use Rattle.trace.proofs.Reach.{cycle-means}

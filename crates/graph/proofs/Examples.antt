@@ -7,7 +7,7 @@ use Rattle.record.specs.declared.Event.{Event}
 use Rattle.record.specs.declared.Op.{Op}
 use Rattle.record.specs.declared.Op.the-variants.{Read, Write, Acquire, Release, Prewait, Postwait, Notify, Fork, Join, Yield}
 use Rattle.record.specs.Record as Record
-use Rattle.trace.specs.Lists as Lists
+use Rattle.lists.specs.Lists as Lists
 use Rattle.trace.specs.Paths as Paths
 use Rattle.trace.specs.Order as Order
 use Rattle.graph.specs.Conflict as Conflict

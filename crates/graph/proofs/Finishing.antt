@@ -10,9 +10,9 @@ use lib.ListN.{length, getD, drop, replicate, length-replicate}
 use lib.Dec.{eqb, ltb, leb, leb→le}
 use borrow.Author.Tests.{le-leb, lt-leb, leb-false}
 use Rattle.record.specs.declared.Event.{Event}
-use Rattle.trace.specs.Lists.{firstOf, from, below, over}
-use Rattle.trace.proofs.Tests.{by, by-same, T-of}
-use Rattle.trace.proofs.Lists.{first-same, from-bound, earliest}
+use Rattle.lists.specs.Lists.{firstOf, from, below, over}
+use Rattle.lists.proofs.Tests.{by, by-same, T-of}
+use Rattle.lists.proofs.Lists.{first-same, from-bound, earliest}
 use Rattle.rows.specs.Bits.{has, marked, cleared}
 use Rattle.graph.specs.declared.Arranged.the-variants.{Ordered, Cyclic}
 use Rattle.graph.specs.Transactions.{none-yet, labelled, transactions, transactionLimit}

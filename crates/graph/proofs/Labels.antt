@@ -13,8 +13,8 @@ use Rattle.record.specs.declared.Event.{Event}
 use Rattle.trace.specs.Swaps.{Swap, Swaps}
 use Rattle.graph.specs.Conflict.{joins, conflict}
 use Rattle.graph.specs.Transactions.{Tally, none-yet, currentOf, begins, belongs, ends, tallied, Labelled, labelledFrom, labelled}
-use Rattle.trace.proofs.Tests.{by, T-of, T-is}
-use Rattle.trace.proofs.Lists.{map-map}
+use Rattle.lists.proofs.Tests.{by, T-of, T-is}
+use Rattle.lists.proofs.Lists.{map-map}
 use Rattle.trace.proofs.Swaps.{swaps-lift}
 use Rattle.graph.proofs.Clash.{conflict-own}
 use Rattle.graph.proofs.Ends.{clash}

@@ -8,7 +8,7 @@ use mathlib.Core.List.{List, [], _∷_}
 use lib.ListN.{length, take}
 use lib.Dec.{T}
 use Rattle.record.specs.declared.Event.{Event}
-use Rattle.trace.specs.Lists.{someOf, from}
+use Rattle.lists.specs.Lists.{someOf, from}
 use Rattle.trace.specs.Paths.{hasEdge, Path, Cycle, cyclic}
 use Rattle.trace.proofs.Together.{Edge}
 use Rattle.trace.proofs.Reach.{cycle-means, cycle-made}
@@ -16,7 +16,7 @@ use Rattle.graph.specs.Transactions.{Labelled, none-yet, labelledFrom, l
 use Rattle.graph.specs.Edges.{edges}
 use Rattle.graph.specs.Violation.{edgesUpTo, cyclicUpTo, shortest}
 use Rattle.graph.proofs.Ends.{clash, owner, has-pair, edge-has}
-use Rattle.trace.proofs.Lists.{first-some, first-none, earliest}
+use Rattle.lists.proofs.Lists.{first-some, first-none, earliest}
 use Rattle.graph.proofs.Numbers.{labelled-take}
 use Rattle.graph.proofs.Demand3.{edge-take}
 

@@ -11,14 +11,14 @@ use lib.Seq.{take-suc}
 use lib.Dec.{T, T-not, not-T, eqb, eqb→eq, eqb-refl}
 use Rattle.record.specs.declared.Event.{Event}
 use Rattle.record.specs.declared.Op.the-variants.{Yield}
-use Rattle.trace.specs.Lists.{someOf, keep, firstOf, from, below}
+use Rattle.lists.specs.Lists.{someOf, keep, firstOf, from, below}
 use Rattle.trace.specs.Paths.{Edge, hasEdge, Path, reaches, cyclic}
 use Rattle.graph.specs.Transactions.{Tally, none-yet, tallied, Labelled, labelledFrom, labelled, transactions}
 use Rattle.graph.specs.Edges.{makes, edges}
 use Rattle.graph.specs.Rule.{Closes, Leads, Follows, Reported}
 use Rattle.graph.specs.Violation.{edgesUpTo, cyclicUpTo, shortest, transactionAt, closes, onward, walk, cycleOf}
-use Rattle.trace.proofs.Tests.{by, T-of, or-cases, and-left, and-right, and-both}
-use Rattle.trace.proofs.Lists.{Among, first-of, second-of, length-from, below-has, keep-has, count-all, some-has, Holds, some-at, among-length, among-take, first-passes, first-least, first-some, Earliest, earliest}
+use Rattle.lists.proofs.Tests.{by, T-of, or-cases, and-left, and-right, and-both}
+use Rattle.lists.proofs.Lists.{Among, first-of, second-of, length-from, below-has, keep-has, count-all, some-has, Holds, some-at, among-length, among-take, first-passes, first-least, first-some, Earliest, earliest}
 use Rattle.trace.proofs.Reach.{Bounded, path-joined, Over, sound, complete, edge-back}
 use Rattle.trace.proofs.Order.{ancestors, fewer}
 use Rattle.graph.proofs.Ends.{has-pair}

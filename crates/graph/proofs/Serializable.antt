@@ -6,15 +6,15 @@ use mathlib.Core.Bool.{true, false}
 use mathlib.Core.List.{List, [], _∷_, _++_, map}
 use lib.Dec.{eqb}
 use Rattle.record.specs.declared.Event.{Event}
-use Rattle.trace.specs.Lists.{keep, each}
+use Rattle.lists.specs.Lists.{keep, each}
 use Rattle.trace.specs.Swaps.{Together}
 use Rattle.trace.specs.Paths.{cyclic}
 use Rattle.graph.specs.Transactions.{Labelled, labelled, transactions}
 use Rattle.graph.specs.Swaps.{Serial}
 use Rattle.graph.specs.Edges.{edges}
 use Rattle.graph.specs.Serial.{eventsOf, threadOf, serialOrder, serialTrace}
-use Rattle.trace.proofs.Tests.{by}
-use Rattle.trace.proofs.Lists.{Among, keep-true, keep-false, map-append, map-map, among-map, among-unmap}
+use Rattle.lists.proofs.Tests.{by}
+use Rattle.lists.proofs.Lists.{Among, keep-true, keep-false, map-append, map-map, among-map, among-unmap}
 use Rattle.trace.proofs.Together.{Edge, Stand, stand-together, together-stand, edge-map, edge-unmap}
 use Rattle.trace.proofs.Greedy.{Greedy, greedy-same, Direct, order-greedy}
 use Rattle.trace.proofs.Serial.{arranged, Owned}

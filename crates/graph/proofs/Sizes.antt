@@ -7,7 +7,7 @@ use mathlib.Core.List.{List, [], _∷_}
 use lib.ListN.{length}
 use Rattle.record.specs.declared.Event.{Event}
 use Rattle.trace.specs.Paths.{Edge}
-use Rattle.trace.proofs.Tests.{by}
+use Rattle.lists.proofs.Tests.{by}
 use Rattle.trace.proofs.Swaps.{length-swaps}
 use Rattle.trace.proofs.Sizes.{taking-size}
 use Rattle.graph.specs.Conflict.{conflict}

@@ -14,7 +14,7 @@ use Rattle.graph.specs.declared.Numbered.the-variants as Number
 use Rattle.graph.specs.declared.label.Labelling.the-variants.{Done}
 use Rattle.graph.specs.Transactions.{Tally, none-yet, begins, belongs, tallied, full, numbered, counted, labelledFrom, labelled, tallyFrom, transactions, transactionLimit}
 use Rattle.graph.specs.Engine.{pastEnd, held, Labels}
-use Rattle.trace.proofs.Tests.{by, T-of, T-is, and-left, and-right}
+use Rattle.lists.proofs.Tests.{by, T-of, T-is, and-left, and-right}
 use Rattle.graph.proofs.Held.{held-more}
 use Rattle.graph.proofs.Numbers.{count-begun, count-unbegun, tally-rises}
 

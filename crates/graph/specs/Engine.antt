@@ -8,7 +8,7 @@ use lib.ListN.{length, getD, take, drop}
 use lib.Dec.{eqb, ltb, leb}
 use Rattle.record.specs.declared.Event.{Event}
 use Rattle.record.specs.declared.Op.the-variants.{Read}
-use Rattle.trace.specs.Lists.{firstOf, from, below}
+use Rattle.lists.specs.Lists.{firstOf, from, below}
 use Rattle.trace.specs.Paths.{Edge, reaches, cyclic}
 use Rattle.rows.specs.Bits.{has, marked, beyond}
 use Rattle.graph.specs.declared.label.Labelling.{Labelling}

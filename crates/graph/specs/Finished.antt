@@ -6,7 +6,7 @@ use mathlib.Core.List.{List, [], _∷_}
 use lib.ListN.{length, getD, replicate}
 use lib.Dec.{eqb, leb}
 use Rattle.record.specs.declared.Event.{Event}
-use Rattle.trace.specs.Lists.{firstOf, below, over}
+use Rattle.lists.specs.Lists.{firstOf, below, over}
 use Rattle.trace.specs.Paths.{Edge, hasEdge}
 use Rattle.rows.specs.Bits.{has}
 use Rattle.graph.specs.declared.Arranged.{Arranged}

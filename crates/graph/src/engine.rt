@@ -4,7 +4,7 @@ use record::Event;
 ghost use mathlib.Core.Path.{_≡_};
 ghost use Prim.Native.Nat.{_≤_};
 ghost use lib.ListN.{length, take};
-ghost use Rattle.trace.specs.Lists.{over};
+ghost use Rattle.lists.specs.Lists.{over};
 ghost use Rattle.graph.specs.declared.label.Labelling.the-variants.{Done};
 ghost use Rattle.graph.specs.Arranged.{Arrangement, arranged};
 ghost use Rattle.graph.specs.Engine.{Labels};

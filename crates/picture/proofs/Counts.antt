@@ -10,7 +10,7 @@ use lib.ListN.{length, getD, take}
 use lib.Seq.{take-suc}
 use lib.Dec.{eqb}
 use Rattle.record.specs.declared.Event.{Event}
-use Rattle.trace.proofs.Tests.{by}
+use Rattle.lists.proofs.Tests.{by}
 use Rattle.graph.specs.Transactions.{Tally, none-yet, begins, belongs, tallied, labelledFrom, labelled, tallyFrom, transactions}
 use Rattle.graph.proofs.Numbers.{Sane, sane-none, sane-tallied, belongs-first, belongs-lt, count-begun, count-unbegun}
 use Rattle.picture.specs.Linking.{countedFrom}

@@ -11,8 +11,8 @@ use Rattle.record.specs.Record.{recordsOf}
 use Rattle.record.specs.declared.Event.{Event}
 use Rattle.record.specs.Faults.{Check, check, firstFault}
 use Rattle.record.proofs.Laws.{none-first, first-of-both, second-of-both}
-use Rattle.trace.specs.Lists.{over}
-use Rattle.trace.proofs.Lists.{Among}
+use Rattle.lists.specs.Lists.{over}
+use Rattle.lists.proofs.Lists.{Among}
 use Rattle.rows.specs.Bits.{cleared}
 use Rattle.rows.proofs.Laws.{cleared-is}
 use Rattle.graph.specs.Transactions.{Labelled, none-yet, labelled, transactions}

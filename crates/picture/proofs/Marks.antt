@@ -7,10 +7,10 @@ use mathlib.Core.List.{List, [], _∷_, _++_}
 use borrow.Author.Tests.{eq-eqb, ne-eqb}
 use lib.ListN.{length, drop}
 use lib.Dec.{eqb}
-use Rattle.trace.specs.Lists.{someOf}
+use Rattle.lists.specs.Lists.{someOf}
 use Rattle.trace.specs.Paths.{hasEdge}
-use Rattle.trace.proofs.Tests.{by, by-same}
-use Rattle.trace.proofs.Lists.{some-cons}
+use Rattle.lists.proofs.Tests.{by, by-same}
+use Rattle.lists.proofs.Lists.{some-cons}
 use Rattle.rows.specs.Bits.{has, marked, cleared}
 use Rattle.rows.proofs.Laws.{marked-same, marked-other, length-marked, rest-marked, length-cleared, cleared-none}
 use Rattle.graph.specs.Transactions.{Labelled}

@@ -11,10 +11,10 @@ use lib.ListN.{length, getD, take, drop, length-append, length-map}
 use lib.Seq.{take-append-seam}
 use borrow.Author.Tests.{le-leb}
 use Rattle.record.specs.declared.Event.{Event}
-use Rattle.trace.specs.Lists.{keep, each, from, below, over}
+use Rattle.lists.specs.Lists.{keep, each, from, below, over}
 use Rattle.trace.specs.Paths.{Edge, hasEdge}
-use Rattle.trace.proofs.Tests.{by}
-use Rattle.trace.proofs.Lists.{Among, among-at, length-from, from-at, from-le, below-has, below-bound, keep-true, keep-false, keep-among, keep-has, count-all, among-map, among-unmap}
+use Rattle.lists.proofs.Tests.{by}
+use Rattle.lists.proofs.Lists.{Among, among-at, length-from, from-at, from-le, below-has, below-bound, keep-true, keep-false, keep-among, keep-has, count-all, among-map, among-unmap}
 use Rattle.trace.proofs.Reach.{Bounded, edge-below}
 use Rattle.graph.specs.Transactions.{none-yet, labelled, transactions}
 use Rattle.graph.specs.Edges.{edges}

@@ -5,10 +5,10 @@ use mathlib.Core.Path.{_≡_, refl, sym, ap, ap₂, _∙_}
 use mathlib.Core.Bool.{true, false}
 use mathlib.Core.List.{List, [], _∷_, _++_}
 use lib.ListN.{length, length-append}
-use Rattle.trace.specs.Lists.{keep, each, from, below}
+use Rattle.lists.specs.Lists.{keep, each, from, below}
 use Rattle.trace.specs.Paths.{Edge, hasEdge}
-use Rattle.trace.proofs.Tests.{by}
-use Rattle.trace.proofs.Lists.{Among, keep-true, keep-false, keep-same, below-bound, from-step, from-none}
+use Rattle.lists.proofs.Tests.{by}
+use Rattle.lists.proofs.Lists.{Among, keep-true, keep-false, keep-same, below-bound, from-step, from-none}
 use Rattle.rows.specs.Bits.{has}
 use Rattle.checker.proofs.Written.{each-each, each-map}
 use Rattle.decimal.specs.Decimal.{decimal}

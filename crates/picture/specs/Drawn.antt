@@ -6,7 +6,7 @@ use lib.ListN.{length, replicate}
 use lib.Dec.{leb}
 use Rattle.record.specs.Record.{recordsOf}
 use Rattle.record.specs.Faults.{Check, check, firstFault}
-use Rattle.trace.specs.Lists.{over}
+use Rattle.lists.specs.Lists.{over}
 use Rattle.graph.specs.Arranged.{workSize}
 use Rattle.checker.specs.Verdict.{Numbers}
 use Rattle.checker.specs.Refusals.{Fault, start, firstRefusal, events}

@@ -6,7 +6,7 @@ use mathlib.Core.List.{List, _++_}
 use lib.ListN.{length, getD, take}
 use lib.Dec.{T}
 use Rattle.record.specs.declared.Event.{Event}
-use Rattle.trace.specs.Lists.{each}
+use Rattle.lists.specs.Lists.{each}
 use Rattle.trace.specs.Paths.{Edge, hasEdge}
 use Rattle.graph.specs.Transactions.{labelled, transactions}
 use Rattle.graph.specs.Edges.{edges}

@@ -2,7 +2,7 @@
 use Prim.Native.Nat.{ℕ}
 use mathlib.Core.List.{List, [], _∷_, _++_, map}
 use Rattle.record.specs.declared.Event.{Event}
-use Rattle.trace.specs.Lists.{keep, each, below}
+use Rattle.lists.specs.Lists.{keep, each, below}
 use Rattle.trace.specs.Paths.{Edge, hasEdge}
 use Rattle.graph.specs.Transactions.{labelled, transactions}
 use Rattle.graph.specs.Edges.{edges}

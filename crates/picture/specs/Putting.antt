@@ -4,7 +4,7 @@ use mathlib.Core.Path.{_≡_}
 use mathlib.Core.Bool.{true, false}
 use mathlib.Core.List.{List, [], _++_}
 use lib.ListN.{length}
-use Rattle.trace.specs.Lists.{keep, each, below}
+use Rattle.lists.specs.Lists.{keep, each, below}
 use Rattle.rows.specs.Bits.{has}
 use Rattle.checker.specs.Writing.{writtenAt}
 use Rattle.picture.specs.Picture.{opening, closing, transactionLine, edge, edgeLine}

@@ -4,7 +4,7 @@ use checker::Refusal;
 ghost use mathlib.Core.Path.{_≡_};
 ghost use Prim.Native.Nat.{_+_, _*_, _≤_, _<_};
 ghost use lib.ListN.{length};
-ghost use Rattle.trace.specs.Lists.{each, below};
+ghost use Rattle.lists.specs.Lists.{each, below};
 ghost use Rattle.decimal.specs.Decimal.{decimal};
 ghost use Rattle.picture.specs.Picture.{transactionLine, edge, edgeLine};
 ghost use Rattle.picture.specs.Drawn.{numbers, Put, fitted};

@@ -8,7 +8,7 @@ use Rattle.replay.specs.Machine.{faultOf, next, after, possible}
 use Rattle.graph.specs.Transactions.{Tally, belongs, tallied, Labelled, labelledFrom, tallyFrom}
 use Rattle.graph.specs.Engine.{labelledAs}
 use Rattle.graph.proofs.Numbers.{Sane, sane-tallied}
-use Rattle.trace.proofs.Tests.{and-left, and-right, and-both}
+use Rattle.lists.proofs.Tests.{and-left, and-right, and-both}
 
 pub labelled-append : (s : Tally) (a b : List Event) → labelledFrom s (a ++ b) ≡ labelledFrom s a ++ labelledFrom (tallyFrom s a) b
 unfolding labelledFrom tallyFrom

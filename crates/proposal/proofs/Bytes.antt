@@ -13,9 +13,9 @@ use Rattle.record.specs.Record as Record
 use Rattle.record.specs.Record.{event, encoded, inRange, records, recordsOf}
 use Rattle.record.proofs.Laws.{IsEvent, good-decoded, decoded-good, decode-encoded, encode-decoded, length-encoded}
 use Rattle.replay.specs.Machine.{fresh, faultOf, possible}
-use Rattle.trace.specs.Lists.{each}
-use Rattle.trace.proofs.Tests.{by}
-use Rattle.trace.proofs.Lists.{Among, Every}
+use Rattle.lists.specs.Lists.{each}
+use Rattle.lists.proofs.Tests.{by}
+use Rattle.lists.proofs.Lists.{Among, Every}
 use Rattle.graph.specs.Arranged.{workSize}
 use Rattle.graph.specs.Transactions.{Tally, begins, full, tallied, tallyFrom, transactions}
 use Rattle.graph.specs.Violation.{shortest}

@@ -10,10 +10,10 @@ use borrow.Author.Tests.{eq-eqb}
 use Rattle.record.specs.declared.Event.{Event}
 use Rattle.record.specs.declared.Op.the-variants.{Yield}
 use Rattle.record.specs.Record.{target}
-use Rattle.trace.specs.Lists.{someOf}
+use Rattle.lists.specs.Lists.{someOf}
 use Rattle.trace.specs.Paths.{Edge, hasEdge, Path, reaches, cyclic}
-use Rattle.trace.proofs.Tests.{by, by-same, T-of, or-cases, or-left, or-right, and-left, and-right, and-both}
-use Rattle.trace.proofs.Lists.{Among, Before, among-cons, some-none, among-map, before-map}
+use Rattle.lists.proofs.Tests.{by, by-same, T-of, or-cases, or-left, or-right, and-left, and-right, and-both}
+use Rattle.lists.proofs.Lists.{Among, Before, among-cons, some-none, among-map, before-map}
 use Rattle.trace.proofs.Reach.{Bounded, edge-below, sound, edge-back}
 use Rattle.trace.proofs.Closing.{cyclic-goal}
 use Rattle.graph.specs.Conflict as Conflict

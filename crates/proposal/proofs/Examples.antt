@@ -9,7 +9,7 @@ use Rattle.record.specs.declared.Op.the-variants.{Read, Write, Acquire, Release
 use Rattle.record.specs.Faults as Faults
 use Rattle.record.specs.Record as Record
 use Rattle.replay.specs.Machine as Machine
-use Rattle.trace.specs.Lists as Lists
+use Rattle.lists.specs.Lists as Lists
 use Rattle.trace.specs.Paths as Paths
 use Rattle.graph.specs.Conflict as Conflict
 use Rattle.graph.specs.Transactions as Transactions

@@ -16,7 +16,7 @@ use Rattle.record.specs.Faults.{firstFault, check}
 use Rattle.record.specs.Record.{kind}
 use Rattle.replay.specs.declared.State.{State}
 use Rattle.replay.specs.Machine.{fresh, forked, waitless, waitsOn, lifeOf, waitOf, waitBefore, finds, checks, faultOf, act, next, after, possible}
-use Rattle.trace.proofs.Tests.{by, by-same, T-of}
+use Rattle.lists.proofs.Tests.{by, by-same, T-of}
 use Rattle.graph.specs.Transactions.{Tally, none-yet, currentOf, begins, belongs, ends, tallied, tallyFrom}
 use Rattle.graph.proofs.Numbers.{sane-none, current-other, open-of}
 use Rattle.proposal.specs.Walk.{yieldOf}

@@ -11,8 +11,8 @@ use borrow.Author.Tests.{le-leb, lt-leb, ltb-true, ltb-false, leb-true}
 use Rattle.record.specs.declared.Event.{Event}
 use Rattle.record.specs.Faults.{firstFault, check}
 use Rattle.trace.specs.Paths.{cyclic}
-use Rattle.trace.proofs.Tests.{by}
-use Rattle.trace.proofs.Lists.{map-append}
+use Rattle.lists.proofs.Tests.{by}
+use Rattle.lists.proofs.Lists.{map-append}
 use Rattle.rows.specs.Bits.{begun}
 use Rattle.graph.specs.Conflict.{joins}
 use Rattle.graph.specs.Transactions.{Tally, none-yet, currentOf, begins, belongs, full, tallied, tallyFrom, Labelled, labelledFrom, labelled, transactions, transactionLimit}

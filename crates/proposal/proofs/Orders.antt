@@ -11,8 +11,8 @@ use Rattle.record.specs.Record.{kind, target, value, targetLimit, inRange}
 use Rattle.record.proofs.Laws.{none-first}
 use Rattle.replay.specs.declared.State.{State}
 use Rattle.replay.specs.Machine.{fresh, forked, lifeOf, waitOf, waitBefore, finds, checks, faultOf, next, possible}
-use Rattle.trace.proofs.Tests.{and-left, and-right, and-both}
-use Rattle.trace.proofs.Lists.{Among}
+use Rattle.lists.proofs.Tests.{and-left, and-right, and-both}
+use Rattle.lists.proofs.Lists.{Among}
 use Rattle.thin.specs.Orderly.{ranged}
 use Rattle.thin.proofs.Meet.{Orderly}
 use Rattle.thin.proofs.Walk.{orderly-means}

@@ -11,9 +11,9 @@ use Rattle.record.specs.declared.Event.{Event}
 use Rattle.record.specs.Faults.{firstFault}
 use Rattle.record.specs.Record.{inRange}
 use Rattle.replay.specs.Machine.{fresh, possible}
-use Rattle.trace.specs.Lists.{allOf, over}
-use Rattle.trace.proofs.Tests.{and-both}
-use Rattle.trace.proofs.Lists.{Among, all-cons}
+use Rattle.lists.specs.Lists.{allOf, over}
+use Rattle.lists.proofs.Tests.{and-both}
+use Rattle.lists.proofs.Lists.{Among, all-cons}
 use Rattle.rows.specs.Bits.{cleared}
 use Rattle.rows.proofs.Laws.{cleared-is}
 use Rattle.graph.specs.Arranged.{workSize}

@@ -15,9 +15,9 @@ use Rattle.record.specs.Record.{event, inRange, recordsOf}
 use Rattle.record.proofs.Laws.{none-first}
 use Rattle.replay.specs.Machine.{fresh, possible}
 use Rattle.replay.specs.Machine.{after as state-after}
-use Rattle.trace.specs.Lists.{someOf, from, over}
+use Rattle.lists.specs.Lists.{someOf, from, over}
 use Rattle.trace.specs.Paths.{cyclic}
-use Rattle.trace.proofs.Lists.{Among, first-default, first-is, from-bound, map-append}
+use Rattle.lists.proofs.Lists.{Among, first-default, first-is, from-bound, map-append}
 use Rattle.graph.specs.Arranged.{workSize}
 use Rattle.graph.specs.Transactions.{none-yet, labelledFrom, labelled, tallyFrom, transactions}
 use Rattle.graph.specs.Edges.{edges}

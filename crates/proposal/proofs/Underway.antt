@@ -12,10 +12,10 @@ use Rattle.record.specs.declared.Event.{Event}
 use Rattle.record.specs.Faults.{firstFault}
 use Rattle.record.specs.Record.{kind, target, value, targetLimit, inRange}
 use Rattle.replay.specs.Machine.{fresh, possible}
-use Rattle.trace.specs.Lists.{allOf, someOf}
+use Rattle.lists.specs.Lists.{allOf, someOf}
 use Rattle.trace.specs.Paths.{cyclic}
-use Rattle.trace.proofs.Tests.{by-same, and-left}
-use Rattle.trace.proofs.Lists.{Among, map-append, all-has}
+use Rattle.lists.proofs.Tests.{by-same, and-left}
+use Rattle.lists.proofs.Lists.{Among, map-append, all-has}
 use Rattle.graph.specs.Transactions.{labelledFrom}
 use Rattle.graph.specs.Edges.{edges}
 use Rattle.graph.specs.Engine.{pastEnd}

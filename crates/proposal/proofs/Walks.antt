@@ -15,10 +15,10 @@ use Rattle.record.specs.Record.{inRange}
 use Rattle.record.proofs.Laws.{none-first}
 use Rattle.replay.specs.declared.State.{State}
 use Rattle.replay.specs.Machine.{fresh, faultOf, act, after, possible}
-use Rattle.trace.specs.Lists.{keep}
+use Rattle.lists.specs.Lists.{keep}
 use Rattle.trace.specs.Paths.{cyclic}
-use Rattle.trace.proofs.Tests.{by, and-both}
-use Rattle.trace.proofs.Lists.{Among, Before, map-append, keep-true, keep-false}
+use Rattle.lists.proofs.Tests.{by, and-both}
+use Rattle.lists.proofs.Lists.{Among, Before, map-append, keep-true, keep-false}
 use Rattle.graph.specs.Transactions.{none-yet, begins, labelled, transactions, transactionLimit}
 use Rattle.graph.specs.Edges.{edges}
 use Rattle.graph.proofs.Steps.{among-first, before-first}

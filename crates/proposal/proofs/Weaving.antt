@@ -9,9 +9,9 @@ use lib.ListN.{length, getD, length-append}
 use borrow.Author.Tests.{eq-eqb, ne-eqb}
 use Rattle.record.specs.declared.Event.{Event}
 use Rattle.record.specs.Record.{encoded}
-use Rattle.trace.specs.Lists.{keep, each, over}
-use Rattle.trace.proofs.Tests.{by, by-same}
-use Rattle.trace.proofs.Lists.{map-append, each-append, keep-true, keep-false}
+use Rattle.lists.specs.Lists.{keep, each, over}
+use Rattle.lists.proofs.Tests.{by, by-same}
+use Rattle.lists.proofs.Lists.{map-append, each-append, keep-true, keep-false}
 use Rattle.graph.specs.Engine.{pastEnd}
 use Rattle.checker.specs.Writing.{writtenAt}
 use Rattle.checker.proofs.Written.{written-start, written-more, length-written}

@@ -6,7 +6,7 @@ use mathlib.Core.List.{List, _∷_, _++_}
 use lib.ListN.{length, take}
 use lib.Dec.{T}
 use Rattle.record.specs.declared.Event.{Event}
-use Rattle.trace.specs.Lists.{keep}
+use Rattle.lists.specs.Lists.{keep}
 use Rattle.checker.specs.Verdict.{Numbers}
 use Rattle.checker.specs.Refusals.{events}
 use Rattle.checker.specs.Judged.{judged}

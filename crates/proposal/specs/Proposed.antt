@@ -8,7 +8,7 @@ use lib.Dec.{leb}
 use Rattle.record.specs.declared.Event.{Event}
 use Rattle.record.specs.Faults.{Check, check, firstFault}
 use Rattle.record.specs.Record.{encoded, recordsOf}
-use Rattle.trace.specs.Lists.{keep, each, over}
+use Rattle.lists.specs.Lists.{keep, each, over}
 use Rattle.graph.specs.Arranged.{workSize}
 use Rattle.checker.specs.Verdict.{Numbers}
 use Rattle.checker.specs.Examined.{inputChecks}

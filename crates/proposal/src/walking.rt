@@ -10,7 +10,7 @@ ghost use lib.Dec.{T};
 ghost use lib.ListN.{length, take};
 ghost use Rattle.record.specs.Record.{inRange};
 ghost use Rattle.replay.specs.Machine.{fresh, possible};
-ghost use Rattle.trace.specs.Lists.{allOf};
+ghost use Rattle.lists.specs.Lists.{allOf};
 ghost use Rattle.graph.specs.Transactions.{tallyOf, full};
 ghost use Rattle.thin.specs.Cells.{cellsOf};
 ghost use Rattle.proposal.specs.Keeping.{keptOf, needing, putIn, stepAs, lastIn, stepping, Stepping, Walked};

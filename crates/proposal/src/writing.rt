@@ -5,7 +5,7 @@ ghost use Prim.Native.Nat.{_+_, _*_, _≤_};
 ghost use mathlib.Core.Path.{_≡_};
 ghost use lib.ListN.{length};
 ghost use Rattle.record.specs.Record.{encoded};
-ghost use Rattle.trace.specs.Lists.{over};
+ghost use Rattle.lists.specs.Lists.{over};
 ghost use Rattle.checker.specs.Writing.{writtenAt};
 ghost use Rattle.proposal.specs.Proposed.{yieldsIn, linesFrom};
 ghost use Rattle.proposal.specs.Weaving.{placedAs, woven, bytesIn};

@@ -9,8 +9,8 @@ use lib.ListN.{length, drop, take, length-append}
 use borrow.Author.Tests.{lt-ltb}
 use Rattle.record.specs.declared.Event.{Event}
 use Rattle.record.specs.Record.{inTwo, recordsOf}
-use Rattle.trace.specs.Lists.{each, over, below}
-use Rattle.trace.proofs.Lists.{Earliest, earliest}
+use Rattle.lists.specs.Lists.{each, over, below}
+use Rattle.lists.proofs.Lists.{Earliest, earliest}
 use Rattle.graph.specs.Transactions.{Labelled, labelled}
 use Rattle.graph.specs.Violation.{cyclicUpTo, shortest, cycleOf}
 use Rattle.graph.specs.Engine.{held}

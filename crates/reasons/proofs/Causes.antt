@@ -9,8 +9,8 @@ use lib.Seq.{length-take-le, getD-take}
 use lib.Dec.{T, eqb, eqb→eq, eqb-refl}
 use Rattle.record.specs.declared.Event.{Event}
 use Rattle.trace.specs.Paths.{Edge, hasEdge}
-use Rattle.trace.proofs.Tests.{and-left, and-right, and-both}
-use Rattle.trace.proofs.Lists.{Earliest, earliest, before-at}
+use Rattle.lists.proofs.Tests.{and-left, and-right, and-both}
+use Rattle.lists.proofs.Lists.{Earliest, earliest, before-at}
 use Rattle.graph.specs.Conflict.{conflict}
 use Rattle.graph.specs.Transactions.{none-yet, Labelled, labelled}
 use Rattle.graph.specs.Violation.{edgesUpTo, cyclicUpTo, shortest, transactionAt, cycleOf}

@@ -11,7 +11,7 @@ use lib.Dec.{eqb}
 use borrow.Author.Tests.{eq-eqb, ne-eqb}
 use Rattle.record.specs.declared.Event.{Event}
 use Rattle.record.specs.Record.{twoBytes}
-use Rattle.trace.proofs.Tests.{T-of}
+use Rattle.lists.proofs.Tests.{T-of}
 use Rattle.graph.specs.Conflict.{conflict}
 use Rattle.graph.specs.Transactions.{Labelled}
 use Rattle.graph.specs.Engine.{pastEnd, labelledAs, held}

@@ -5,9 +5,9 @@ use mathlib.Core.Path.{_≡_}
 use mathlib.Core.Bool.{Bool, false}
 use mathlib.Core.List.{List}
 use lib.Dec.{T}
-use Rattle.trace.specs.Lists.{someOf, firstOf, from, below}
-use Rattle.trace.proofs.Tests.{T-is}
-use Rattle.trace.proofs.Lists.{Among, from-among, from-bound, from-le, below-has, below-bound, some-none, some-has, Holds, some-at, first-passes, first-among, first-least, first-below, first-is, first-default}
+use Rattle.lists.specs.Lists.{someOf, firstOf, from, below}
+use Rattle.lists.proofs.Tests.{T-is}
+use Rattle.lists.proofs.Lists.{Among, from-among, from-bound, from-le, below-has, below-bound, some-none, some-has, Holds, some-at, first-passes, first-among, first-least, first-below, first-is, first-default}
 
 module _ (hit : ℕ → ℕ → Bool) (n : ℕ) where
   abbrev later : ℕ → List ℕ

@@ -9,8 +9,8 @@ use lib.Dec.{T, leb, eqb, eqb→eq, eqb-refl}
 use borrow.Author.Tests.{eq-eqb, ne-eqb}
 use Rattle.record.specs.declared.Event.{Event}
 use Rattle.record.specs.Record.{kind, target}
-use Rattle.trace.specs.Lists.{firstOf}
-use Rattle.trace.proofs.Tests.{by, T-of, and-right}
+use Rattle.lists.specs.Lists.{firstOf}
+use Rattle.lists.proofs.Tests.{by, T-of, and-right}
 use Rattle.graph.specs.Conflict.{accesses, writes, locks, forks, joins, sameThread, sameVariable, sameLock, governs, sameChild, conflict}
 use Rattle.reasons.specs.declared.Reason.{Reason}
 use Rattle.reasons.specs.declared.Reason.the-variants.{Thread, Variable, Lock, ForkJoin}

@@ -10,7 +10,7 @@ use lib.Dec.{ltb}
 use borrow.Author.Tests.{ltb-true, ltb-false}
 use Rattle.record.specs.declared.Event.{Event}
 use Rattle.graph.specs.Violation.{shortest, cycleOf}
-use Rattle.trace.proofs.Tests.{by}
+use Rattle.lists.proofs.Tests.{by}
 use Rattle.checker.specs.Verdict.{cooperable, violation}
 use Rattle.checker.specs.Verdict as Verdict
 use Rattle.checker.specs.Refusals.{refusal, events}

@@ -7,8 +7,8 @@ use mathlib.Core.List.{List, [], _∷_, append-assoc}
 use lib.ListN.{length, getD, set, take, drop}
 use lib.Seq.{sets-eq}
 use Rattle.record.specs.declared.Event.{Event}
-use Rattle.trace.specs.Lists.{each, over, below}
-use Rattle.trace.proofs.Lists.{length-from, from-at}
+use Rattle.lists.specs.Lists.{each, over, below}
+use Rattle.lists.proofs.Lists.{length-from, from-at}
 use Rattle.graph.specs.Transactions.{Labelled}
 use Rattle.graph.specs.Engine.{held}
 use Rattle.checker.specs.Writing.{writtenAt}

@@ -3,7 +3,7 @@ use Prim.Native.Nat.{ℕ, zero, suc}
 use mathlib.Core.List.{List, []}
 use lib.ListN.{length}
 use Rattle.record.specs.declared.Event.{Event}
-use Rattle.trace.specs.Lists.{each, over, below}
+use Rattle.lists.specs.Lists.{each, over, below}
 use Rattle.graph.specs.Violation.{shortest, cycleOf}
 use Rattle.checker.specs.Refusals.{refusal, events}
 use Rattle.reasons.specs.Why.{causeAt, valuesOf}

@@ -6,7 +6,7 @@ use lib.ListN.{getD, length, take}
 use lib.Dec.{ltb, eqb}
 use Rattle.record.specs.declared.Event.{Event}
 use Rattle.record.specs.Record.{target}
-use Rattle.trace.specs.Lists.{someOf, firstOf, from, below}
+use Rattle.lists.specs.Lists.{someOf, firstOf, from, below}
 use Rattle.graph.specs.Conflict.{sameThread, sameVariable, sameLock, governs, sameChild, conflict}
 use Rattle.graph.specs.Transactions.{Labelled, labelled}
 use Rattle.graph.specs.Violation.{shortest, cycleOf}

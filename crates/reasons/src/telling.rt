@@ -4,7 +4,7 @@ use record::Event;
 ghost use Prim.Native.Nat.{_*_, _≤_};
 ghost use mathlib.Core.Path.{_≡_};
 ghost use lib.ListN.{length};
-ghost use Rattle.trace.specs.Lists.{each, over, below};
+ghost use Rattle.lists.specs.Lists.{each, over, below};
 ghost use Rattle.graph.specs.Engine.{held};
 ghost use Rattle.checker.specs.Demand3.{numbersIn};
 ghost use Rattle.reasons.specs.Telling.{lineAt};

@@ -9,9 +9,9 @@ use lib.ListN.{length, take, drop, length-append, length-drop, take-append-drop}
 use lib.Seq.{take-append-seam, take-at, drop-at}
 use lib.Dec.{T, leb, eqb}
 use borrow.Author.Tests.{le-leb, lt-leb, leb-true, leb-false, eq-eqb, eqb-true}
-use Rattle.trace.specs.Lists.{keep, each, over}
-use Rattle.trace.proofs.Tests.{by}
-use Rattle.trace.proofs.Lists.{keep-true, keep-false}
+use Rattle.lists.specs.Lists.{keep, each, over}
+use Rattle.lists.proofs.Tests.{by}
+use Rattle.lists.proofs.Lists.{keep-true, keep-false}
 use Rattle.record.specs.declared.Event.{Event}
 use Rattle.record.specs.declared.Fault.{Fault as Refusal}
 use Rattle.record.specs.declared.Decoded.{Decoded}

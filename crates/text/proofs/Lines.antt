@@ -8,7 +8,7 @@ use lib.ListN.{length, getD, take, length-append}
 use lib.Seq.{take-at, getD-at, take-suc, take-length}
 use lib.Dec.{T, leb, eqb, le→leb, leb→le}
 use borrow.Author.Tests.{leb-true, leb-false, eq-eqb, ne-eqb, eqb-true, eqb-false}
-use Rattle.trace.proofs.Tests.{by, and-true, and-left, and-right, and-both}
+use Rattle.lists.proofs.Tests.{by, and-true, and-left, and-right, and-both}
 use Rattle.record.specs.declared.Event.{Event}
 use Rattle.record.specs.declared.Op.{Op}
 use Rattle.record.specs.declared.Decoded.{Decoded}

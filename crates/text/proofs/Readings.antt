@@ -9,7 +9,7 @@ use lib.ListN.{length, getD, take, drop, length-drop}
 use lib.Seq.{take-all}
 use lib.Dec.{leb, ltb, eqb}
 use borrow.Author.Tests.{le-leb, lt-leb, leb-true, leb-false, ltb-true, ltb-false}
-use Rattle.trace.proofs.Tests.{by}
+use Rattle.lists.proofs.Tests.{by}
 use Rattle.record.specs.declared.Decoded.the-variants.{Good}
 use Rattle.record.specs.declared.Op.the-variants.{Yield}
 use Rattle.record.specs.Record.{targetLimit, operation}

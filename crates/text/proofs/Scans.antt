@@ -9,9 +9,9 @@ use lib.ListN.{length, getD, take, drop, replicate, drop-of-length-le, List·get
 use lib.Seq.{drop-cons, getD-take}
 use lib.Dec.{leb, eqb}
 use borrow.Author.Tests.{le-leb, lt-leb, eq-eqb, ne-eqb, eqb-true, leb-true}
-use Rattle.trace.specs.Lists.{allOf}
-use Rattle.trace.proofs.Tests.{by, and-true}
-use Rattle.trace.proofs.Lists.{all-cons}
+use Rattle.lists.specs.Lists.{allOf}
+use Rattle.lists.proofs.Tests.{by, and-true}
+use Rattle.lists.proofs.Lists.{all-cons}
 use Rattle.decimal.specs.Decimal.{isDigit, valueFrom, valueOf, zeroLed, isNumber}
 use Rattle.text.specs.Line.{names, name, ascii, sameWord, placeFrom}
 use Rattle.text.specs.Steps.{before, runIn, numberIn}

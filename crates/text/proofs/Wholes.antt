@@ -11,9 +11,9 @@ use lib.Seq.{drop-cons, drop-drop, take-all, take-at, drop-at, length-take-le, t
 use lib.Dec.{eqb}
 use borrow.Author.Tests.{le-leb, lt-leb, eq-eqb, ne-eqb}
 use borrow.Rule.Slice.PartMut.{putMid}
-use Rattle.trace.specs.Lists.{keep, each, over}
-use Rattle.trace.proofs.Tests.{by}
-use Rattle.trace.proofs.Lists.{keep-true, keep-false, each-append}
+use Rattle.lists.specs.Lists.{keep, each, over}
+use Rattle.lists.proofs.Tests.{by}
+use Rattle.lists.proofs.Lists.{keep-true, keep-false, each-append}
 use Rattle.record.specs.declared.Event.{Event}
 use Rattle.record.specs.declared.Fault.{Fault as Refusal}
 use Rattle.record.specs.declared.Decoded.{Decoded}

@@ -7,9 +7,9 @@ use mathlib.Core.List.{List, [], _∷_, _++_, map}
 use lib.ListN.{length, getD}
 use lib.Dec.{T, eqb}
 use borrow.Author.Tests.{eq-eqb, ne-eqb, eqb-true, not-true}
-use Rattle.trace.specs.Lists.{allOf, each}
-use Rattle.trace.proofs.Tests.{by, and-true}
-use Rattle.trace.proofs.Lists.{all-none, all-cons}
+use Rattle.lists.specs.Lists.{allOf, each}
+use Rattle.lists.proofs.Tests.{by, and-true}
+use Rattle.lists.proofs.Lists.{all-none, all-cons}
 use Rattle.decimal.specs.Decimal.{decimal, isDigit}
 use Rattle.text.specs.Line.{names, name, ascii, spaced, glued, words, sameWord, placeFrom, kindNamed, space, lineFeed}
 use Rattle.text.specs.File.{lines}

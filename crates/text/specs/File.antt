@@ -4,7 +4,7 @@ use mathlib.Core.Bool.{true, false}
 use mathlib.Core.List.{List, [], _∷_}
 use lib.ListN.{length}
 use lib.Dec.{leb, eqb}
-use Rattle.trace.specs.Lists.{keep, each, over}
+use Rattle.lists.specs.Lists.{keep, each, over}
 use Rattle.record.specs.declared.Event.{Event}
 use Rattle.record.specs.declared.Decoded.{Decoded}
 use Rattle.record.specs.declared.Decoded.the-variants.{Good, Refused}
@@ -110,5 +110,5 @@ writeText input out =
 
 -- Everything above, opened at once, for a proof by computation: `unfolding opened`
 unfoldable pub opened : Unit {0}
-unfolding Rattle.text.specs.Line.opened Rattle.record.specs.Faults.opened Rattle.trace.specs.Lists.opened done refused firstRefused events feeds lines readChecks readText writeChecks writeText
+unfolding Rattle.text.specs.Line.opened Rattle.record.specs.Faults.opened Rattle.lists.specs.Lists.opened done refused firstRefused events feeds lines readChecks readText writeChecks writeText
 opened = tt

@@ -8,7 +8,7 @@ use record::Decoded;
 ghost use mathlib.Core.Path.{_≡_};
 ghost use Prim.Native.Nat.{_%_, _≤_, _<_};
 ghost use lib.ListN.{length};
-ghost use Rattle.trace.specs.Lists.{over};
+ghost use Rattle.lists.specs.Lists.{over};
 ghost use Rattle.record.specs.Record.{encoded, decoded, recordsOf};
 ghost use Rattle.text.specs.Line.{lineOf, lineRead};
 ghost use Rattle.text.specs.File.{firstRefused, lines};

@@ -6,7 +6,7 @@ use Prim.Native.Nat.{ℕ}
 use Rattle.record.specs.declared.Event.{Event}
 use Rattle.record.specs.declared.Op.{Op}
 use Rattle.record.specs.declared.Op.the-variants.{Read, Write, Notify, Fork, Join, Yield}
-use Rattle.trace.specs.Lists as Lists
+use Rattle.lists.specs.Lists as Lists
 use Rattle.trace.specs.Paths as Paths
 use Rattle.trace.specs.Paths.{reaches}
 use Rattle.graph.specs.Conflict as Conflict

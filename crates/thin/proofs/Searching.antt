@@ -9,10 +9,10 @@ use lib.Dec.{eqb}
 use lib.ListN.{length, getD, take, drop, length-append}
 use lib.Seq.{append-snoc, take-at, getD-at}
 use Rattle.record.specs.declared.Event.{Event}
-use Rattle.trace.specs.Lists.{from}
+use Rattle.lists.specs.Lists.{from}
 use Rattle.trace.specs.Paths.{reaches, cyclic}
-use Rattle.trace.proofs.Tests.{by, by-same}
-use Rattle.trace.proofs.Lists.{Among, first-default, first-is, from-le, from-bound, map-append}
+use Rattle.lists.proofs.Tests.{by, by-same}
+use Rattle.lists.proofs.Lists.{Among, first-default, first-is, from-le, from-bound, map-append}
 use Rattle.rows.specs.Bits.{has}
 use Rattle.graph.specs.Transactions.{Tally, none-yet, belongs, tallied, Labelled, labelledFrom, labelled, tallyFrom, transactions}
 use Rattle.graph.specs.Edges.{edges}

@@ -10,8 +10,8 @@ use lib.Dec.{eqb}
 use lib.ListN.{length, getD, set, take, drop}
 use lib.Seq.{append-snoc, take-at, take-all, getD-set-same, getD-set-other, length-take-le, split-at}
 use Rattle.record.specs.declared.Event.{Event}
-use Rattle.trace.proofs.Tests.{by, by-same}
-use Rattle.trace.proofs.Lists.{Among}
+use Rattle.lists.proofs.Tests.{by, by-same}
+use Rattle.lists.proofs.Lists.{Among}
 use Rattle.graph.specs.Transactions.{Tally, none-yet, begins, belongs, tallied, labelledFrom, labelled, tallyFrom, transactions, transactionLimit}
 use Rattle.graph.specs.Violation.{transactionAt}
 use Rattle.graph.specs.Serial.{threadOf}

@@ -6,7 +6,7 @@ use mathlib.Core.Bool.{Bool, false, cond, not, _&&_, _||_}
 use mathlib.Core.List.{List, [], _∷_, map}
 use lib.Dec.{eqb, leb, ltb}
 use lib.ListN.{length, getD, drop}
-use Rattle.trace.specs.Lists.{from}
+use Rattle.lists.specs.Lists.{from}
 use Rattle.trace.specs.Paths.{reaches}
 use Rattle.record.specs.declared.Event.{Event}
 use Rattle.rows.specs.Bits.{has, joined}

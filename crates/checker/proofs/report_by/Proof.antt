@@ -5,7 +5,7 @@ use mathlib.Core.Path.{sym, ap, _∙_}
 use mathlib.Core.List.{List}
 use lib.ListN.{length, take}
 use lib.Seq.{length-take-le}
-use Rattle.trace.specs.Lists.{each, over}
+use Rattle.lists.specs.Lists.{each, over}
 use Rattle.checker.specs.Refusals.{events}
 use Rattle.checker.specs.Writing.{lineOf}
 use Rattle.checker.specs.Concluded.{namedIn}

@@ -8,7 +8,7 @@ use lib.ListN.{length, getD, set, take, replicate, length-set}
 use borrow.Author.Needs.{needs}
 use Rattle.record.specs.declared.Event.{Event}
 use Rattle.record.specs.Record.{event}
-use Rattle.trace.specs.Lists.{over}
+use Rattle.lists.specs.Lists.{over}
 use Rattle.graph.specs.Engine.{pastEnd}
 use Rattle.checker.specs.Refusals.{events}
 use Rattle.checker.specs.Examined.{noEvent}

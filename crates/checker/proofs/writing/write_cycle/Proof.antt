@@ -4,7 +4,7 @@ use native.Mathlib.Omega.{arith}
 use mathlib.Core.Path.{refl}
 use lib.ListN.{length, getD, length-set}
 use Rattle.record.specs.Record.{inTwo}
-use Rattle.trace.specs.Lists.{each}
+use Rattle.lists.specs.Lists.{each}
 use Rattle.checker.proofs.Written.{Going, going-start, going-room, going-more, going-end, two-stores, length-each}
 use Rattle.checker.proofs.writing.write_cycle.Statement.{statement}
 use Rattle.checker.proofs.writing.write_cycle.Tie as tie

@@ -8,7 +8,7 @@ use lib.ListN.{length, getD, length-set}
 use borrow.Author.Needs.{needs}
 use Rattle.record.specs.declared.Event.{Event}
 use Rattle.record.specs.Record.{event}
-use Rattle.trace.specs.Lists.{each}
+use Rattle.lists.specs.Lists.{each}
 use Rattle.graph.specs.Engine.{pastEnd, held}
 use Rattle.graph.specs.Serial.{threadOf}
 use Rattle.checker.specs.Report.{firstRecord}

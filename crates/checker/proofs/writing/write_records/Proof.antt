@@ -7,7 +7,7 @@ use borrow.Author.Needs.{needs}
 use Rattle.record.specs.declared.Event.{Event}
 use Rattle.record.specs.Record.{event, encoded}
 use Rattle.record.proofs.Laws.{size-most, length-encoded}
-use Rattle.trace.specs.Lists.{each}
+use Rattle.lists.specs.Lists.{each}
 use Rattle.checker.specs.Writing.{writtenAt, recordIn, bytesIn}
 use Rattle.checker.proofs.Written.{Going, going-start, going-room, going-more, going-end, length-each, written-part, written-size}
 use Rattle.checker.proofs.Scanned.{part-is}

@@ -6,7 +6,7 @@ use mathlib.Core.List.{List}
 use lib.ListN.{length, take}
 use lib.Seq.{length-take-le}
 use borrow.Author.Needs.{needs}
-use Rattle.trace.specs.Lists.{each, over}
+use Rattle.lists.specs.Lists.{each, over}
 use Rattle.checker.specs.Writing.{bytesIn, Numbering, numbersOf}
 use Rattle.checker.proofs.Linking.{numbers-below, lined-up}
 use Rattle.checker.proofs.writing.write_serial.Statement.{statement}

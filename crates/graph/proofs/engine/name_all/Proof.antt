@@ -3,7 +3,7 @@ use Prim.Native.Nat.{ℕ, _-_, _≤_, _<_}
 use native.Mathlib.Omega.{arith}
 use mathlib.Core.Path.{_≡_, sym, ap, _∙_}
 use lib.ListN.{getD, take}
-use Rattle.trace.specs.Lists.{over}
+use Rattle.lists.specs.Lists.{over}
 use Rattle.graph.specs.Finished.{namedBy, foundBy}
 use Rattle.graph.specs.declared.Arranged.the-variants.{Cyclic}
 use Rattle.graph.proofs.Arranging.{labels-below, order-named, order-found, cycle-named, cycle-found}

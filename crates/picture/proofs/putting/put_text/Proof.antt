@@ -1,7 +1,7 @@
 -- `picture::putting::put_text` meets its contract: the four parts, one after the other.
 use Prim.Native.Nat.{ℕ}
 use mathlib.Core.List.{List, _++_}
-use Rattle.trace.specs.Lists.{each, below}
+use Rattle.lists.specs.Lists.{each, below}
 use Rattle.picture.specs.Picture.{opening, closing, transactionLine}
 use Rattle.picture.specs.Putting.{rowLines, textOf}
 use Rattle.picture.proofs.Pieces.{puts-both}

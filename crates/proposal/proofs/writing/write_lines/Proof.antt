@@ -6,7 +6,7 @@ use mathlib.Core.Path.{_≡_, sym, ap, _∙_, subst, subst₂}
 use mathlib.Core.Logic.{⊎-elim}
 use mathlib.Core.List.{List}
 use lib.ListN.{length, getD, length-set}
-use Rattle.trace.specs.Lists.{over}
+use Rattle.lists.specs.Lists.{over}
 use Rattle.graph.specs.Engine.{pastEnd}
 use Rattle.checker.proofs.Written.{two-stores}
 use Rattle.proposal.specs.Proposed.{yieldsIn, linesFrom}

@@ -4,7 +4,7 @@ use native.Mathlib.Omega.{arith}
 use native.Mathlib.Numerals.{add-one}
 use mathlib.Core.Path.{_≡_, sym, ap, _∙_, subst}
 use lib.ListN.{length}
-use Rattle.trace.specs.Lists.{over}
+use Rattle.lists.specs.Lists.{over}
 use Rattle.proposal.specs.Weaving.{woven, bytesIn}
 use Rattle.proposal.proofs.Weaving.{Written, written-none, written-room, written-next}
 use Rattle.proposal.proofs.writing.write_records.Statement.{statement}

@@ -2,7 +2,7 @@
 use native.Mathlib.Omega.{arith}
 use mathlib.Core.Path.{_≡_}
 use borrow.Author.Tests.{ne-eqb}
-use Rattle.trace.proofs.Tests.{by-same}
+use Rattle.lists.proofs.Tests.{by-same}
 use Rattle.reasons.proofs.reasoning.governs.Statement.{statement}
 use Rattle.reasons.proofs.reasoning.governs.Tie as tie
 

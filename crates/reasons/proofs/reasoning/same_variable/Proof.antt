@@ -3,7 +3,7 @@ use native.Mathlib.Omega.{arith}
 use mathlib.Core.Path.{_≡_}
 use lib.Dec.{leb}
 use borrow.Author.Tests.{le-leb, lt-leb, ne-eqb}
-use Rattle.trace.proofs.Tests.{by}
+use Rattle.lists.proofs.Tests.{by}
 use Rattle.reasons.proofs.reasoning.same_variable.Statement.{statement}
 use Rattle.reasons.proofs.reasoning.same_variable.Tie as tie
 
