@@ -15,10 +15,10 @@ use Rattle.graph.specs.Transactions as Transactions
 use Rattle.graph.specs.Edges as Edges
 use Rattle.graph.specs.Serial as Serial
 use Rattle.graph.specs.Violation as Violation
-use Rattle.graph.specs.Arranged as Arranged
+use Rattle.graph.specs.Named as Named
 use Rattle.graph.specs.Transactions.{labelled}
 use Rattle.graph.specs.Violation.{shortest}
-use Rattle.graph.specs.Arranged.{named}
+use Rattle.graph.specs.Named.{named}
 
 abbrev by : ℕ → Op → Event
 by t o = record { thread = t; op = o }
@@ -77,6 +77,6 @@ All P [] = Unit {0}
 All P (x ∷ xs) = P x × All P xs
 
 pub examples : All Right table
-unfolding Record.opened Lists.opened Paths.opened Order.opened Conflict.opened Transactions.opened Edges.opened Serial.opened Violation.opened Arranged.opened
+unfolding Record.opened Lists.opened Paths.opened Order.opened Conflict.opened Transactions.opened Edges.opened Serial.opened Violation.opened Named.opened
 examples =
     ((refl, refl, refl), ((refl, refl, refl), ((refl, refl, refl), ((refl, refl, refl), ((refl, refl, refl), ((refl, refl, refl), ((refl, refl, refl), ((refl, refl, refl), ((refl, refl, refl), tt)))))))))
