@@ -6,6 +6,7 @@ mod whole;
 
 use record::Decoded;
 use record::Event;
+pub use whole::line_feeds;
 ghost use mathlib.Core.Path.{_≡_};
 ghost use Rattle.text.specs.Line.{lineRead, lineOver, lineRoom};
 ghost use Rattle.text.specs.File.{numbers, ending, readText, writeText};
@@ -64,7 +65,7 @@ pub fn write_line(e: Event, out: &mut [u8]) -> usize
 pub fn read_text(text: &[u8], out: &mut [u8]) -> Outcome
     ensures { λ r. ⌜ ending r (now (out .exit)) ≡ readText (now (text .entry)) (now (out .entry)) ⌝ }
 {
-    let feeds = whole::feeds(text);
+    let feeds = line_feeds(text);
     if 1024 < feeds {
         return refused(2);
     }

@@ -11,13 +11,12 @@ ghost use lib.ListN.{length};
 ghost use Rattle.lists.specs.Lists.{over};
 ghost use Rattle.record.specs.Record.{encoded, decoded, recordsOf};
 ghost use Rattle.text.specs.Line.{lineOf, lineRead};
-ghost use Rattle.text.specs.File.{firstRefused, lines};
-ghost use Rattle.text.specs.File.{feeds as File·feeds};
+ghost use Rattle.text.specs.File.{feeds, firstRefused, lines};
 ghost use Rattle.text.specs.Steps.{LineEnd, faultNumber, Told, partBytes, allBytes};
 
 // How many line feeds there are.
-pub fn feeds(text: &[u8]) -> usize
-    ensures { λ r. ⌜ r ≡ File·feeds (now (text .entry)) ⌝ }
+pub fn line_feeds(text: &[u8]) -> usize
+    ensures { λ r. ⌜ r ≡ feeds (now (text .entry)) ⌝ }
 {
     let mut n = 0;
     let mut i = 0;
