@@ -9,20 +9,16 @@ use Rattle.record.specs.declared.Event.{Event}
 use Rattle.record.specs.declared.Decoded.{Decoded}
 use Rattle.record.specs.declared.Decoded.the-variants.{Good, Refused}
 use Rattle.record.specs.Faults.{Check, check, firstFault}
+use Rattle.record.specs.Numbers.{Numbers, refusedBy}
 use Rattle.record.specs.Record.{recordSize, encoded, decoded, recordsOf}
 use Rattle.text.specs.declared.Outcome.{Outcome}
 use Rattle.text.specs.declared.Outcome.the-variants.{Done, Refused as Denied}
 use Rattle.text.specs.Line.{lineFeed, glued, lineOf, lineRead}
 
--- This paper's number and values for each case of an outcome.  0 done: the number of bytes written.  1 refused: number and record
-pub record Numbers : Type 0 where
-  pub kind : ℕ
-  pub first : ℕ
-  pub second : ℕ
-
+-- This paper's number and values for each case of an outcome.  0 done: the number of bytes written.  2 refused: number and record
 abbrev pub numbers : Outcome → Numbers
 numbers (Done bytes) = record { kind = 0; first = bytes; second = 0 }
-numbers (Denied r) = record { kind = 1; first = r .number; second = r .record }
+numbers (Denied r) = refusedBy (r .number) (r .record)
 
 -- An outcome, and the output at its end
 pub record Ending : Type 0 where
@@ -38,7 +34,7 @@ done bytes out = record { answer = record { kind = 0; first = length bytes; seco
 
 -- refused: the output keeps its contents
 unfoldable pub refused : ℕ → ℕ → List ℕ → Ending
-refused number place out = record { answer = record { kind = 1; first = number; second = place }; out = out }
+refused number place out = record { answer = refusedBy number place; out = out }
 
 -- ---- Parts of a file, each read by itself
 

@@ -8,6 +8,7 @@ use record::Decoded;
 use record::Event;
 pub use whole::line_feeds;
 ghost use mathlib.Core.Path.{_≡_};
+ghost use Rattle.record.specs.Numbers.{refusedBy};
 ghost use Rattle.text.specs.Line.{lineRead, lineOver, lineRoom};
 ghost use Rattle.text.specs.File.{numbers, ending, readText, writeText};
 
@@ -25,7 +26,7 @@ pub enum Outcome {
 
 // A refusal that isn't at a line or a record.
 fn refused(number: u8) -> Outcome
-    ensures { λ r. ⌜ numbers r ≡ record { kind = 1; first = number; second = 0 } ⌝ }
+    ensures { λ r. ⌜ numbers r ≡ refusedBy number 0 ⌝ }
 {
     Outcome::Refused(Refusal { number, record: 0 })
 }
