@@ -17,7 +17,7 @@ use Rattle.record.specs.Record.{kind, target, value, targetLimit, operation, in
 use Rattle.record.proofs.Laws.{Shape, shape, Parts, parts}
 use Rattle.decimal.specs.Decimal.{decimal, valueFrom, valueOf, isNumber}
 use Rattle.text.specs.Line.{space, lineFeed, name, fieldCount, fields, wordsOf, spaced, lineOf, words, kindNamed, limits, fit, formless, readFields, readOperation, readWords, lastByte, butLast, lineRead}
-use Rattle.text.specs.Demands.{OneLine}
+use Rattle.text.specs.Meaning.{OneLine}
 use Rattle.decimal.proofs.Decimals.{value-decimal, number-decimal, number-within, decimal-value}
 use Rattle.text.proofs.Words.{lacks, AllLack, decimal-lacks, decimals-lack, spaced-lacks, name-lacks, kind-name, name-named, named-low, words-spaced, spaced-words}
 

@@ -15,7 +15,7 @@ use Rattle.lists.specs.Lists.{keep, each, over}
 use Rattle.lists.proofs.Tests.{by}
 use Rattle.lists.proofs.Lists.{keep-true, keep-false, each-append}
 use Rattle.record.specs.declared.Event.{Event}
-use Rattle.record.specs.declared.Fault.{Fault as Refusal}
+use Rattle.record.specs.declared.Refusal.{Refusal}
 use Rattle.record.specs.declared.Decoded.{Decoded}
 use Rattle.record.specs.declared.Decoded.the-variants.{Good, Refused}
 use Rattle.record.specs.Record.{encoded, encodedOver, encodedSize, records, recordsOf}
