@@ -1,5 +1,5 @@
 -- Laws of places in a list: what stands there, what is stored there, and what is written over it.
-use Prim.Native.Nat.{ℕ, zero, suc, _+_, _-_, _<_, _≤_}
+use Prim.Native.Nat.{ℕ, zero, suc, pred, _+_, _-_, _<_, _≤_}
 use native.Mathlib.Omega.{arith}
 use native.Mathlib.Numerals.{add-one}
 use native.Mathlib.Nat.{lt-of-not-le}
@@ -18,6 +18,11 @@ pub zeros-at : (n i : ℕ) → _≡_ {A = ℕ} (getD (replicate n 0) i 0) 0
 zeros-at zero i = refl
 zeros-at (suc n) zero = refl
 zeros-at (suc n) (suc i) = zeros-at n i
+
+-- an entry that is a place and 1, less 1
+pub less-one : (n : ℕ) → n - 1 ≡ pred n
+less-one zero = refl
+less-one (suc n) = omega arith
 
 -- an entry that isn't 0 is within its list
 pub within : (l : List ℕ) (i : ℕ) → getD l i 0 ≢ 0 → i < length l
