@@ -318,11 +318,6 @@ written-read line e h = by (eqb (lastByte line) lineFeed)
 pub one-line : (e : Event) → T (inRange e) → OneLine e
 one-line e r = record { line = lineOf e; reads = read-written e r; only = λ l h. sym (written-read l e h .0) }
 
--- so two records never share a line
-pub line-tells : (e f : Event) → T (inRange e) → T (inRange f) → lineOf e ≡ lineOf f → e ≡ f
-line-tells e f r s h =
-    let g : Good e ≡ Good f = sym (read-written e r) ∙ ap lineRead h ∙ read-written f s in cc g
-
 -- ---- The only refusal of a line is 14
 
 abbrev pub Fourteen : Decoded → Type 0
