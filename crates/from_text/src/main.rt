@@ -1,7 +1,6 @@
 // Lines of text on standard input, as records on standard output. A refusal is the line `refused NUMBER RECORD`.
 // Of more than 32,768 bytes the first 32,768 are read as a text, and in the rest line feeds are counted: with over 1,024 in
-// all the input is refused 2. Otherwise the first line without the form begins in the first 32,768 bytes, since 1,024 lines
-// of the form have at most 19 bytes each, and it has the same number there as in the whole.
+// all the input is refused 2. Otherwise the first part tells the answer of the whole (text/proofs/Right, `long-text`).
 use libc::STDIN_FILENO;
 use libc::STDOUT_FILENO;
 use record::Refusal;

@@ -45,7 +45,7 @@ ends-done n bytes old out p q = ap₂ (λ m o. record { answer = record { kind =
 -- ---- Reading
 
 module _ (text out : List ℕ) where
-  over-feeds : 1024 < feeds text → firstFault (readChecks text out) ≡ 2
+  pub over-feeds : 1024 < feeds text → firstFault (readChecks text out) ≡ 2
   unfolding readChecks firstFault
   over-feeds h = simp (lt-leb (feeds text) 1024 h)
 

@@ -110,7 +110,7 @@ unfolding feeds keep
 lacking [] h = refl
 lacking (c ∷ b) h = let p = lacks-first lineFeed c b h in ap length (keep-false (λ x. eqb x lineFeed) c b (p .0)) ∙ lacking b (p .1)
 
-feeds-both : (a b : List ℕ) → feeds (a ++ b) ≡ feeds a + feeds b
+pub feeds-both : (a b : List ℕ) → feeds (a ++ b) ≡ feeds a + feeds b
 unfolding feeds keep
 feeds-both [] b = sym (zero-add (feeds b))
 feeds-both (c ∷ a) b = by (eqb c lineFeed)

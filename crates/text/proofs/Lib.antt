@@ -7,3 +7,4 @@ pub mod Makings
 pub mod Wholes
 pub mod Endings
 pub mod Right
+pub mod Cuts

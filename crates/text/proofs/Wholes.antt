@@ -48,15 +48,15 @@ feeds-end text i l = ap feeds (drop-of-length-le text l)
 
 -- ---- The first line, and the others
 
-size-cut : (c : ℕ) (bs : List ℕ) → eqb c lineFeed ≡ true → lineSize (c ∷ bs) ≡ 1
+pub size-cut : (c : ℕ) (bs : List ℕ) → eqb c lineFeed ≡ true → lineSize (c ∷ bs) ≡ 1
 unfolding lineSize before
 size-cut c bs e = let z : before lineFeed (c ∷ bs) ≡ 0 = rw (e, before) in omega arith
 
-size-on : (c : ℕ) (bs : List ℕ) → eqb c lineFeed ≡ false → lineSize (c ∷ bs) ≡ suc (lineSize bs)
+pub size-on : (c : ℕ) (bs : List ℕ) → eqb c lineFeed ≡ false → lineSize (c ∷ bs) ≡ suc (lineSize bs)
 unfolding lineSize before
 size-on c bs e = let z : before lineFeed (c ∷ bs) ≡ suc (before lineFeed bs) = rw (e, before) in omega arith
 
-lines-begin : (bs : List ℕ) → 0 < length bs → lines bs ≡ take (lineSize bs) bs ∷ lines (drop (lineSize bs) bs)
+pub lines-begin : (bs : List ℕ) → 0 < length bs → lines bs ≡ take (lineSize bs) bs ∷ lines (drop (lineSize bs) bs)
 unfolding lines glued lineSize before
 lines-begin [] l = absurd (omega arith)
 lines-begin (c ∷ bs) l = by (eqb c lineFeed)

@@ -1,14 +1,14 @@
 -- What document 02, L4, demands of the written form, as one statement. Its proof is `right` in proofs/Right.
-use Prim.Native.Nat.{ℕ, _≤_}
+use Prim.Native.Nat.{ℕ, _+_, _≤_, _<_}
 use mathlib.Core.Path.{_≡_}
-use mathlib.Core.List.{List}
+use mathlib.Core.List.{List, _++_}
 use lib.ListN.{length, take}
 use lib.Dec.{T}
 use Rattle.record.specs.declared.Event.{Event}
 use Rattle.record.specs.declared.Decoded.the-variants.{Good}
 use Rattle.record.specs.Record.{inRange}
 use Rattle.text.specs.Line.{lineOf, lineRead}
-use Rattle.text.specs.File.{Ending, done, readText, writeText}
+use Rattle.text.specs.File.{Ending, done, refused, feeds, readText, writeText}
 
 -- an ending that is no refusal, and the bytes that were written
 abbrev pub Ended : Ending → Type 0
@@ -36,3 +36,8 @@ pub record Right : Type 0 where
   -- writing what was read from a text gives this text again, where it fits
   pub read-then-write : (text out back : List ℕ) → Ended (readText text out) → length text ≤ length back
       → writeText (result (readText text out)) back ≡ done text back
+
+-- A long text in two parts: what the first part and the line feeds of the rest tell of it. Its proof is `long-text` in proofs/Right
+pub record LongText (first rest out : List ℕ) : Type 0 where
+  pub over : 1024 < feeds first + feeds rest → readText (first ++ rest) out ≡ refused 2 0 out
+  pub within : feeds first + feeds rest ≤ 1024 → readText (first ++ rest) out ≡ readText first out
