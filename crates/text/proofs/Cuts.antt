@@ -12,7 +12,7 @@ use Rattle.lists.specs.Lists.{each}
 use Rattle.lists.proofs.Tests.{by}
 use Rattle.record.specs.declared.Event.{Event}
 use Rattle.record.specs.declared.Op.{Op}
-use Rattle.record.specs.declared.Fault.{Fault as Refusal}
+use Rattle.record.specs.declared.Refusal.{Refusal}
 use Rattle.record.specs.declared.Decoded.{Decoded}
 use Rattle.record.specs.declared.Decoded.the-variants.{Good, Refused}
 use Rattle.record.specs.Record.{kind, target, value, targetLimit, inRange}
@@ -20,7 +20,7 @@ use Rattle.record.proofs.Laws.{shape}
 use Rattle.decimal.specs.Decimal.{decimal}
 use Rattle.decimal.proofs.Decimals.{size-two, size-three, size-five}
 use Rattle.text.specs.Line.{lineFeed, name, fields, lineOf, lineRead, lastByte}
-use Rattle.text.specs.File.{Fault, firstRefused, events, feeds, lines, readText}
+use Rattle.text.specs.File.{firstRefused, events, feeds, lines, readText}
 use Rattle.text.specs.Steps.{before, lineSize, spacedOut}
 use Rattle.text.proofs.Lines.{InRange, in-range, written-read, line-unended, Fourteen, line-fourteen}
 use Rattle.text.proofs.Makings.{field-size, fields-none, fields-one, fields-two, line-parts}
@@ -89,7 +89,7 @@ size-le t = omega arith
 
 -- ---- The first line without the form
 
-abbrev fourteen : ℕ → Fault
+abbrev fourteen : ℕ → Refusal
 fourteen k = record { number = 14; place = k }
 
 refused-fourteen : (k : ℕ) (p : List ℕ) (ps : List (List ℕ)) (f : Refusal) → lineRead p ≡ Refused f → firstRefused lineRead k (p ∷ ps) ≡ fourteen k
@@ -186,7 +186,7 @@ lines-short (e ∷ es) h = omega (arith, length-append (lineOf e) (each lineOf e
 pub cut-same : (m : ℕ) (text out : List ℕ) → 22 * 1024 < m → feeds text ≤ 1024 → 8 * feeds text ≤ length out → readText (take m text) out ≡ readText text out
 cut-same m text out long few room = go (firstRefused lineRead 0 (lines text) .number) refl
   where
-    no : Fault
+    no : Refusal
     no = firstRefused lineRead 0 (lines text)
 
     fewer : feeds (take m text) ≤ feeds text
