@@ -132,7 +132,7 @@ module _ (m k : ℕ) (t : List ℕ) (some : 0 < length t) (long : 0 < m) where
       by (leb size m)
       (λ e. ap (firstRefused lineRead k) (cut-lines size (omega (arith, leb-true size m e))) ∙ refused-fourteen k (take size t) (lines (take (m - size) (drop size t))) f h)
       (λ e. let l : m < size = leb-false size m e in
-      ap (firstRefused lineRead k) (cut-lines m (omega arith)) ∙ refused-fourteen k (take m t) (lines (take (m - m) (drop m t))) (record { number = 14 }) (line-unended (take m t) (unended l)))
+      ap (firstRefused lineRead k) (cut-lines m (omega arith)) ∙ refused-fourteen k (take m t) (lines (take (m - m) (drop m t))) (record { number = 14; place = 0 }) (line-unended (take m t) (unended l)))
       ∙ sym (ap (firstRefused lineRead k) whole-lines ∙ refused-fourteen k (take size t) (lines (drop size t)) f h)
 
   module _ (e : Event) (good : lineRead (take size t) ≡ Good e) where
