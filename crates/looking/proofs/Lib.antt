@@ -1,0 +1,4 @@
+pub mod Refusing
+pub mod Seen
+pub mod Scanned
+pub mod Laws
