@@ -5,8 +5,8 @@ use mathlib.Core.Path.{_≡_, refl, sym, ap, ap₂, _∙_, subst}
 use mathlib.Core.Bool.{Bool, true, false, cond, _&&_, and-false}
 use mathlib.Core.List.{List, [], _∷_, _++_}
 use lib.ListN.{getD, drop}
-use lib.Dec.{eqb, ltb, eqb-refl}
-use borrow.Author.Tests.{lt-ltb, le-ltb, eq-eqb, ne-eqb}
+use lib.Dec.{eqb, ltb, leb, eqb-refl}
+use borrow.Author.Tests.{lt-ltb, le-ltb, le-leb, lt-leb, eq-eqb, ne-eqb}
 use Rattle.record.specs.declared.Event.{Event}
 use Rattle.trace.specs.Paths.{Edge}
 use Rattle.rows.specs.Bits.{has}
@@ -16,7 +16,7 @@ use Rattle.graph.specs.Held.{recordAt, held}
 use Rattle.lists.proofs.Tests.{by, T-is}
 use Rattle.graph.proofs.Held.{held-from, held-end}
 use Rattle.graph.proofs.Ends.{of-true, of-false}
-use Rattle.naming.specs.Naming.{rank, lowestBy}
+use Rattle.naming.specs.Naming.{rank, lowestBy, nextBy}
 
 pub rank-is : (t b : ℕ) → b ≡ t → rank t b ≡ 0
 rank-is t b e = ap (λ p. cond p 0 (suc b)) (eq-eqb b t e)
@@ -136,3 +136,16 @@ module _ (n : ℕ) (all : List Event) (labels : List ℕ) (work : List ℕ) (t :
   pub from-all : (a i low : ℕ) → n ≤ i → lowestFrom a i low ≡ low
   unfolding lowestBy edges
   from-all a i low h = ap (λ xs. lowestBy work t a (edges xs) low) (held-end n i all labels h)
+
+  -- what comes next, by the lowest rank in the end
+  module _ (m a i low : ℕ) (end : n ≤ i) (is : lowestFrom a i low ≡ lowestFrom a 0 (suc m)) where
+    whole : lowestBy work t a (edges (held n all labels)) (suc m) ≡ low
+    whole = sym is ∙ from-all a i low end
+
+    pub next-some : low ≤ m → low ≡ nextBy m (edges (held n all labels)) work t a
+    unfolding nextBy
+    next-some h = sym (ap (λ r. cond (leb r m) r 1) whole ∙ ap (λ p. cond p low 1) (le-leb low m h))
+
+    pub next-none : m < low → 1 ≡ nextBy m (edges (held n all labels)) work t a
+    unfolding nextBy
+    next-none h = sym (ap (λ r. cond (leb r m) r 1) whole ∙ ap (λ p. cond p low 1) (lt-leb low m h))
