@@ -1,0 +1,6 @@
+pub mod Picked
+pub mod Taken
+pub mod Lowest
+pub mod Followed
+pub mod Fits
+pub mod Right
