@@ -1,1 +1,2 @@
 pub mod Ancestors
+pub mod Sources
