@@ -39,6 +39,14 @@ absorbed false true r h = refl
 absorbed false false true h = absurd (h tt)
 absorbed false false false h = refl
 
+-- without a cycle, two that reach one another are the same
+pub both-ways : (g : List Edge) → cyclic g ≡ false → (a b : ℕ) → T (reaches g a b) → T (reaches g b a) → a ≡ b
+both-ways g acyclic a b u v = go (sound g a b u) v
+  where
+    go : {c d : ℕ} → Path g c d → T (reaches g d c) → c ≡ d
+    go Path.here v = refl
+    go {c} {d} (Path.there {b = e} f p) v = absurd (subst T acyclic (edge-back g c e f (complete g (path-joined p (sound g d c v)))))
+
 module _ (m : ℕ) (most : m ≤ 512) (w₀ : List ℕ) (g : List Edge) (stands : Stands m w₀ g) (t : ℕ) (in-t : t < m) where
   -- who reaches one that reaches another reaches that
   through : (a b d : ℕ) → a < 512 → b < m → d < m → T (has w₀ b a) → T (has w₀ d b) → T (has w₀ d a)
@@ -120,13 +128,7 @@ module _ (m : ℕ) (most : m ≤ 512) (w₀ : List ℕ) (g : List Edge) (stands 
     in-t₁ = omega arith
 
     apart : (b : ℕ) → b < m → (b ≡ t → ⊥) → T (has w₀ t b) → T (has w₀ b t) → ⊥
-    apart b in-b ne p q = go (sound g b t (subst T (stands .is b t (omega arith) in-t) p)) refl refl
-      where
-        go : {a d : ℕ} → Path g a d → a ≡ b → d ≡ t → ⊥
-        go Path.here u v = ne (sym u ∙ v)
-        go {a} {d} (Path.there {b = c} e r) u v =
-            let back : T (reaches g d a) = subst (λ k. T (reaches g k a)) (sym v) (subst (λ k. T (reaches g t k)) (sym u) (subst T (stands .is t b in-t₁ in-b) q)) in
-            subst T acyclic (edge-back g a c e (complete g (path-joined r (sound g d a back))))
+    apart b in-b ne p q = ne (both-ways g acyclic b t (subst T (stands .is b t (omega arith) in-t) p) (subst T (stands .is t b in-t₁ in-b) q))
 
     -- one whose bit row t has is not reached from t
     unreached : (done w : List ℕ) → Gathering m w₀ t done w → ((c : ℕ) → Among c done → has w₀ c t ≡ false) → (b : ℕ) → b < m → (b ≡ t → ⊥) → has w t b ≡ true → has w₀ b t ≡ false
