@@ -1,4 +1,4 @@
-/* The two engines in plain C that the proved ones are measured beside. */
+/* The two engines in plain C that the proved ones are measured beside, and the pass before any engine. */
 
 #ifndef ENGINES_H
 #define ENGINES_H
@@ -12,5 +12,8 @@ typedef struct quelohuite_answer judge_function(
 
 /* As quelohuite_judge. */
 judge_function plain_judge, fast_judge;
+
+/* The part of it that no judgement can leave out: reading, checking and numbering the records. */
+judge_function look_only;
 
 #endif

@@ -1,6 +1,7 @@
 /* A reading pass that refuses, then rows of ancestors in the work area, filled by the engine, then the
    cycle or the serial trace, then the clean-up. */
 
+#include "engines.h"
 #include "history.h"
 
 enum { FREE = 255, NOWHERE = 255 };
@@ -197,6 +198,20 @@ static unsigned refuse_lengths(size_t input, size_t output, size_t work) {
     if (output < input) return QUELOHUITE_OUTPUT_SHORT;
     if (work < WORDS * TRANSACTIONS) return QUELOHUITE_WORK_SHORT;
     return 0;
+}
+
+struct quelohuite_answer look_only(
+    const uint8_t *input, size_t input_length,
+    uint8_t *output, size_t output_length,
+    uint64_t *work, size_t work_length) {
+    struct history h;
+    (void)output;
+    (void)work;
+    unsigned number = refuse_lengths(input_length, output_length, work_length);
+    if (number != 0) return (struct quelohuite_answer){QUELOHUITE_REFUSED, number, 0};
+    number = read_history(input, input_length / RECORD, &h);
+    if (number != 0) return (struct quelohuite_answer){QUELOHUITE_REFUSED, number, h.records};
+    return (struct quelohuite_answer){QUELOHUITE_COOPERABLE, h.records, h.transactions};
 }
 
 struct quelohuite_answer judge_by(

@@ -1,5 +1,9 @@
-/* Measures the proved engines beside the ones in C, in turns, on the same recordings and in the same
-   buffers. It asserts no time; it stops if any two don't leave the same bytes.
+/* Measures the proved engines beside the ones in C, or beside those of an earlier library, in turns, on the
+   same recordings and in the same buffers. It asserts no time; it stops if any two don't leave the same bytes.
+
+   bench            the engines beside C, how time grows, a night, and proposing beside judging
+   bench --agree    holds all to each other on these recordings, and measures nothing
+   BEFORE defined   now beside the earlier library, every row
 
    The C library's functions are declared here, for the kit's compiler comes without headers. */
 
@@ -26,34 +30,39 @@ static void call_all(judge_function *judge) {
     for (size_t i = 0; i < many; i++) call(judge, first + i, 0);
 }
 
-static void call_c_plain(void) { call_all(plain_judge); }
-static void call_c_fast(void) { call_all(fast_judge); }
-
-/* The library's one function has the plain engine, until it has two: then the one is fast, and the plain
-   engine has a function of its own. bench/run finds out. */
-#ifdef BOTH_ENGINES
+static void call_second(void) { call_all(quelohuite_judge); }
 static void call_plain(void) { call_all(quelohuite_judge_plain); }
-static void call_fast(void) { call_all(quelohuite_judge); }
-enum { FAST, PLAIN, C_FAST, C_PLAIN, SIDES };
-static judge_function *const judges[SIDES] = {quelohuite_judge, quelohuite_judge_plain, fast_judge, plain_judge};
-static timed *const calls[SIDES] = {call_fast, call_plain, call_c_fast, call_c_plain};
-static const char *const names[SIDES] = {"fast", "plain", "C fast", "C plain"};
-static const int ratios[][2] = {{FAST, PLAIN}, {FAST, C_FAST}, {PLAIN, C_PLAIN}, {C_FAST, C_PLAIN}};
+static void call_propose(void) { call_all(quelohuite_propose); }
+
+/* The sides: those that judge, the first `JUDGES` of them, must leave the same bytes. */
+#ifdef BEFORE
+/* The earlier library: bench/run gives its functions these names. */
+judge_function queloearly_judge, queloearly_judge_plain, queloearly_propose;
+static void call_early(void) { call_all(queloearly_judge); }
+static void call_early_plain(void) { call_all(queloearly_judge_plain); }
+static void call_early_propose(void) { call_all(queloearly_propose); }
+enum { SECOND, PLAIN, EARLY, EARLY_PLAIN, JUDGES, PROPOSE = JUDGES, EARLY_PROPOSE, SIDES };
+static judge_function *const judges[JUDGES] = {quelohuite_judge, quelohuite_judge_plain, queloearly_judge, queloearly_judge_plain};
+static timed *const calls[SIDES] = {call_second, call_plain, call_early, call_early_plain, call_propose, call_early_propose};
+static const char *const names[SIDES] = {"second", "plain", "before", "plain before", "propose", "before"};
+static const int ratios[][2] = {{SECOND, EARLY}, {PLAIN, EARLY_PLAIN}, {PROPOSE, EARLY_PROPOSE}};
 #else
-static void call_plain(void) { call_all(quelohuite_judge); }
-enum { PLAIN, C_FAST, C_PLAIN, SIDES };
-static judge_function *const judges[SIDES] = {quelohuite_judge, fast_judge, plain_judge};
-static timed *const calls[SIDES] = {call_plain, call_c_fast, call_c_plain};
-static const char *const names[SIDES] = {"plain", "C fast", "C plain"};
-static const int ratios[][2] = {{PLAIN, C_PLAIN}, {C_FAST, C_PLAIN}};
+static void call_c_second(void) { call_all(fast_judge); }
+static void call_c_plain(void) { call_all(plain_judge); }
+static void call_look(void) { call_all(look_only); }
+enum { SECOND, PLAIN, C_SECOND, C_PLAIN, JUDGES, LOOK = JUDGES, SIDES };
+static judge_function *const judges[JUDGES] = {quelohuite_judge, quelohuite_judge_plain, fast_judge, plain_judge};
+static timed *const calls[SIDES] = {call_second, call_plain, call_c_second, call_c_plain, call_look};
+static const char *const names[SIDES] = {"second", "plain", "C second", "C plain", "C look"};
+static const int ratios[][2] = {{SECOND, PLAIN}, {SECOND, C_SECOND}, {PLAIN, C_PLAIN}, {SECOND, LOOK}};
 #endif
 enum { RATIOS = sizeof ratios / sizeof ratios[0] };
 static double times[SHAPES][SIZES][SIDES];
 
-/* All are given the same contents and must leave the same. */
+/* All that judge are given the same contents and must leave the same. */
 static int agree(const struct recording *r) {
     struct quelohuite_answer answer = {0, 0, 0};
-    for (int side = 0; side < SIDES; side++) {
+    for (int side = 0; side < JUDGES; side++) {
         int here = side != 0;
         for (size_t i = 0; i < sizeof output[0]; i++) output[here][i] = (uint8_t)(7 * i);
         for (size_t i = 0; i < WORK; i++) work[here][i] = ~(uint64_t)i;
@@ -69,15 +78,15 @@ static int agree(const struct recording *r) {
 
 static void print_heading(const char *unit) {
     printf("%-24s %7s", "recording", "records");
-    for (int side = 0; side < SIDES; side++) printf(" %7s, %s", names[side], unit);
-    for (int i = 0; i < RATIOS; i++) printf("  %5s / %-7s", names[ratios[i][0]], names[ratios[i][1]]);
+    for (int side = 0; side < SIDES; side++) printf(" %12s, %s", names[side], unit);
+    for (int i = 0; i < RATIOS; i++) printf("  %7s / %-12s", names[ratios[i][0]], names[ratios[i][1]]);
     printf("\n");
 }
 
 static void print_row(const char *name, size_t records, const double *time, double unit) {
     printf("%-24s %7lu", name, (unsigned long)records);
-    for (int side = 0; side < SIDES; side++) printf(" %11.2f", time[side] / unit);
-    for (int i = 0; i < RATIOS; i++) printf("  %15.2f", time[ratios[i][0]] / time[ratios[i][1]]);
+    for (int side = 0; side < SIDES; side++) printf(" %16.2f", time[side] / unit);
+    for (int i = 0; i < RATIOS; i++) printf("  %22.2f", time[ratios[i][0]] / time[ratios[i][1]]);
     printf("\n");
 }
 
@@ -85,14 +94,14 @@ static void print_growth(void) {
     printf("\ngrowth from size to size: 2 is in proportion, 4 is by the square\n");
     for (size_t s = 0; s < shape_count; s++)
         for (int side = 0; side < SIDES; side++) {
-            printf("%-24s %-8s", side == 0 ? shapes[s].name : "", names[side]);
+            printf("%-24s %-12s", side == 0 ? shapes[s].name : "", names[side]);
             for (int size = 1; size < SIZES; size++)
                 printf("  %6.2f", times[s][size][side] / times[s][size - 1][side]);
             printf("\n");
         }
 }
 
-/* Of the first engine, which is what quelohuite_judge has. */
+/* Of the second engine, which is what quelohuite_judge has. */
 static void print_worst(void) {
     printf("\n");
     for (int size = 0; size < SIZES; size++) {
@@ -104,14 +113,18 @@ static void print_worst(void) {
     }
 }
 
-static int measure_shapes(void) {
+/* Measures, or only holds all to each other; gives how many recordings that was, or 0 where two differ. */
+static size_t each_shape(int measured) {
     static struct recording recording;
+    size_t held = 0;
     first = &recording;
     many = 1;
-    /* The processor is slower in its first second of work: what is measured then is left out. */
-    shapes[0].make(&recording, MOST_RECORDS);
-    time_in_turns(calls, times[0][0], SIDES, MANY_ROUNDS);
-    print_heading("us");
+    if (measured) {
+        /* The processor is slower in its first second of work: what is measured then is left out. */
+        shapes[0].make(&recording, MOST_RECORDS);
+        time_in_turns(calls, times[0][0], SIDES, MANY_ROUNDS);
+        print_heading("us");
+    }
     for (size_t s = 0; s < shape_count; s++)
         for (int size = 0; size < SIZES; size++) {
             shapes[s].make(&recording, sizes[size]);
@@ -119,14 +132,16 @@ static int measure_shapes(void) {
                 printf("%s, %lu records: two of them differ\n", shapes[s].name, (unsigned long)sizes[size]);
                 return 0;
             }
+            held++;
+            if (!measured) continue;
             time_in_turns(calls, times[s][size], SIDES, MANY_ROUNDS);
             print_row(shapes[s].name, recording.records, times[s][size], 1e3);
         }
-    return 1;
+    return held;
 }
 
 /* Four hundred recordings, one after the other. */
-static int measure_night(void) {
+static size_t each_of_a_night(int measured) {
     static struct recording night[NIGHT];
     size_t violations = 0;
     double time[SIDES];
@@ -138,45 +153,48 @@ static int measure_night(void) {
             printf("recording %u of the night: two of them differ\n", i);
             return 0;
         }
-        violations += call(plain_judge, &night[i], 0).kind == QUELOHUITE_VIOLATION;
+        violations += call(quelohuite_judge, &night[i], 0).kind == QUELOHUITE_VIOLATION;
     }
+    if (!measured) return NIGHT;
     printf("\na night: %d recordings, %lu of them violations\n", NIGHT, (unsigned long)violations);
     print_heading("ms");
     time_in_turns(calls, time, SIDES, NIGHT_ROUNDS);
     print_row("a night", MOST_RECORDS, time, 1e6);
-    return 1;
+    return NIGHT;
 }
-
-#ifdef BOTH_ENGINES
-static void call_propose(void) { call_all(quelohuite_propose); }
 
 /* Proposing yields beside judging the same recording, by either proved engine. */
 static void measure_proposing(void) {
     static struct recording recording;
-    static timed *const beside[] = {call_propose, call_fast, call_plain};
+    static timed *const beside[] = {call_propose, call_second, call_plain};
     double time[3];
     first = &recording;
     many = 1;
-    printf("\n%-24s %7s %7s  %14s  %14s\n", "proposing", "records", "yields", "propose / fast", "propose / plain");
+    printf("\n%-24s %7s %7s  %16s  %16s\n", "proposing", "records", "yields", "propose / second", "propose / plain");
     for (size_t s = 0; s < shape_count; s++)
         for (int size = 0; size < SIZES; size++) {
             shapes[s].make(&recording, sizes[size]);
             struct quelohuite_answer answer = call(quelohuite_propose, &recording, 0);
             if (answer.kind != QUELOHUITE_DONE || recording.records == 0) continue;
             time_in_turns(beside, time, 3, MANY_ROUNDS);
-            printf("%-24s %7lu %7lu  %14.2f  %14.2f\n", shapes[s].name, (unsigned long)recording.records,
+            printf("%-24s %7lu %7lu  %16.2f  %16.2f\n", shapes[s].name, (unsigned long)recording.records,
                    (unsigned long)answer.second, time[0] / time[1], time[0] / time[2]);
         }
 }
-#else
-static void measure_proposing(void) {}
-#endif
 
-int main(void) {
-    if (!measure_shapes()) return 1;
-    print_growth();
-    print_worst();
-    if (!measure_night()) return 1;
-    measure_proposing();
+int main(int words, char **word) {
+    int measured = words < 2 || word[1][2] != 'a';
+    size_t held = each_shape(measured);
+    if (held == 0) return 1;
+    if (measured) {
+        print_growth();
+        print_worst();
+    }
+    size_t nightly = each_of_a_night(measured);
+    if (nightly == 0) return 1;
+    if (measured)
+        measure_proposing();
+    else
+        printf("%lu passed: %d that judge leave the same bytes\n", (unsigned long)(held + nightly), (int)JUDGES);
     return 0;
 }

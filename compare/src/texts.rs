@@ -147,6 +147,7 @@ pub fn fixed() -> Vec<Vec<u8>> {
         texts.push(format!("{}{}{line}", around[0], around[1]));
     }
     texts.extend(many_lines());
+    texts.extend(long_texts());
     texts.into_iter().map(String::into_bytes).collect()
 }
 
@@ -176,8 +177,29 @@ fn many_lines() -> Vec<String> {
     texts
 }
 
+/// Texts of one long line among others, with the last line feed that is allowed or the first too
+/// many. What is behind the long line begins around the places where the program reads on.
+fn long_texts() -> Vec<String> {
+    let mut texts = Vec::new();
+    for place in [32767, 32768, 32769, 65535, 65536, 65537, 100000] {
+        for line in ["0 yield\n", "15 write 255 65535\n", "\n"] {
+            for before in [0, 1, 1000, 1023, 1024] {
+                let beginning = line.repeat(before);
+                let zeros = "0".repeat(place - beginning.len());
+                for behind in [1024 - before, 1025 - before] {
+                    texts.push(format!("{beginning}{zeros}{}", line.repeat(behind)));
+                }
+            }
+        }
+    }
+    texts
+}
+
 /// A random text.
 pub fn any(numbers: &mut Numbers) -> Vec<u8> {
+    if numbers.percent(4) {
+        return long(numbers);
+    }
     match numbers.below(10) {
         0 => (0..numbers.below(40)).map(|_| numbers.byte()).collect(),
         1..=3 => soup(numbers),
@@ -200,6 +222,19 @@ fn written(numbers: &mut Numbers) -> Vec<u8> {
         _ => numbers.below(6),
     };
     to_text(&(0..records).flat_map(|_| good_record(numbers)).collect::<Vec<u8>>())
+}
+
+/// Lines of the form, then many bytes with line feeds anywhere, about 1,024 in all.
+fn long(numbers: &mut Numbers) -> Vec<u8> {
+    let lines = numbers.below(1000);
+    let mut text = to_text(&(0..lines).flat_map(|_| good_record(numbers)).collect::<Vec<u8>>());
+    let mut rest = vec![b'0'; 15000 + numbers.below(100000)];
+    for _ in lines..1015 + numbers.below(20) {
+        let place = numbers.below(rest.len());
+        rest[place] = b'\n';
+    }
+    text.extend(rest);
+    text
 }
 
 /// Words and numbers, mostly in the order that a line has.

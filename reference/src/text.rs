@@ -10,8 +10,6 @@ const NAMES: [&str; 10] = [
 ];
 
 const MOST_LINES: usize = 1024;
-/// `from_text` reads no more of its input than this.
-pub const MOST_TEXT_READ: usize = 32768;
 /// No line is longer than `15 write 255 65535` with its line feed.
 const LONGEST_LINE: usize = 19;
 
@@ -112,11 +110,10 @@ pub fn to_text(standard_input: &[u8]) -> Vec<u8> {
     printed(out, written)
 }
 
-/// What the program `from_text` prints for this standard input.
+/// What the program `from_text` prints for this standard input, however long.
 pub fn from_text(standard_input: &[u8]) -> Vec<u8> {
-    let input = &standard_input[..standard_input.len().min(MOST_TEXT_READ)];
     let mut out = vec![0; RECORD_LENGTH * MOST_LINES];
-    let written = read(input, &mut out);
+    let written = read(standard_input, &mut out);
     printed(out, written)
 }
 

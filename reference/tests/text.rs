@@ -218,12 +218,12 @@ fn what_the_programs_print() {
     assert_eq!(to_text(&[0; 8]), b"refused 5 0\n");
     assert_eq!(from_text(b"0 yield\n0 yeild\n"), b"refused 14 1\n");
     assert_eq!(from_text(&b"\n".repeat(1025)), b"refused 2 0\n");
-    // Only the first 32,768 bytes are looked at.
-    let long = [&[b'0'; 32768][..], &b"\n".repeat(1025)].concat();
-    assert_eq!(from_text(&long), b"refused 14 0\n");
-    assert_eq!(from_text(&long[1..]), b"refused 14 0\n");
-    assert_eq!(from_text(&long[1025..]), b"refused 2 0\n");
-    assert_eq!(from_text(&long[1024..]), b"refused 14 0\n");
+    // All line feeds count, and 2 is tried before 14, however long the text is.
+    let long = [&b"0 yield\n".repeat(3)[..], &[b'0'; 100000], &b"\n".repeat(1022)].concat();
+    assert_eq!(from_text(&long), b"refused 2 0\n");
+    assert_eq!(from_text(&long[..long.len() - 1]), b"refused 14 3\n");
+    assert_eq!(from_text(&long[8..]), b"refused 14 2\n");
+    assert_eq!(from_text(&long[24..]), b"refused 14 0\n");
 }
 
 #[test]

@@ -9,6 +9,7 @@ use borrow.Author.Tests.{eq-eqb}
 use lib.Dec.{T, eqb, leb, eqb→eq, leb→le}
 use lib.ListN.{length, getD, set, replicate, length-set}
 use lib.Seq.{getD-set-same, getD-set-other}
+use Rattle.lists.proofs.Places.{zeros-at}
 use Rattle.record.specs.declared.Event.{Event}
 use Rattle.record.specs.declared.Op.{Op}
 use Rattle.record.specs.declared.Op.the-variants.{Read, Write, Acquire, Release, Prewait, Postwait, Notify, Fork, Join, Yield}
@@ -191,11 +192,6 @@ orderly-from s walk (e ∷ es) r a t =
     (orderly-from (Machine.next s e) (livesAfter walk e) es (λ f m. r f (Among.deeper m)) (after-alike s walk e (r e Among.top) h a)
     (and-right (eqb (Machine.faultOf s e) 0) (Machine.possible (Machine.next s e) es) t))
 
-zeros : (n t : ℕ) → _≡_ {A = ℕ} (getD (replicate n 0) t 0) 0
-zeros zero t = refl
-zeros (suc n) zero = refl
-zeros (suc n) (suc t) = zeros n t
-
 -- A possible history is orderly
 pub possible-orderly : (es : List Event) → ((e : Event) → Among e es → T (ranged e)) → T (Machine.possible Machine.fresh es) → T (orderly es)
 unfolding orderly Machine.fresh
@@ -203,8 +199,8 @@ possible-orderly es r t = orderly-from Machine.fresh (replicate 16 0) es r
     (record {
       long = refl;
       size = refl;
-      none = λ k h. zeros 16 k;
-      over = λ k h. let z : _≡_ {A = ℕ} 0 2 = sym (zeros 16 k) ∙ h in absurd (omega arith);
+      none = λ k h. zeros-at 16 k;
+      over = λ k h. let z : _≡_ {A = ℕ} 0 2 = sym (zeros-at 16 k) ∙ h in absurd (omega arith);
     }) t
 
 -- The events of a recording that isn't refused are orderly: the second engine takes them

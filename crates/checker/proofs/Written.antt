@@ -8,6 +8,7 @@ use mathlib.Core.List.{List, [], _∷_, _++_, map, append-assoc, append-nil}
 use lib.ListN.{length, getD, set, take, drop, length-append, length-drop, take-append-drop, drop-of-length-le}
 use lib.Seq.{set-split, take-all, take-append-seam, drop-drop, drop-cons, length-take-le, take-at, drop-append-add, sets-eq, paste, paste-suc}
 use borrow.Rule.Slice.PartMut.{putMid}
+use Rattle.lists.proofs.Places.{rest-whole}
 use Rattle.record.specs.declared.Event.{Event}
 use Rattle.record.specs.Record.{encoded, encodedOver, encodedSize}
 use Rattle.record.proofs.Laws.{encoded-over, size-over, length-encoded}
@@ -123,22 +124,19 @@ module _ (out₀ : List ℕ) (n : ℕ) (whole : List ℕ) where
 
 -- ---- Written into the rest of an output, from place n on
 
-rest-whole : (out : List ℕ) (n : ℕ) → n ≤ length out → take (length out - n) (drop n out) ≡ drop n out
-rest-whole out n h = take-all (length out - n) (drop n out) (omega (arith, length-drop n out))
-
 pub written-rest : (new out : List ℕ) (n : ℕ) → n ≤ length out → (part : List ℕ) → part ≡ over new (take (length out - n) (drop n out))
     → putMid n (length out - n) out part ≡ writtenAt out n new
 unfolding writtenAt over
 written-rest new out n h part p =
     let fits : length (drop n out) ≤ length out - n = omega (arith, length-drop n out) in
     let none : drop (length out - n) (drop n out) ≡ [] = drop-of-length-le (drop n out) fits in
-    let q : part ≡ new ++ drop (n + length new) out = p ∙ ap (over new) (rest-whole out n h) ∙ ap (λ x. new ++ x) (drop-drop (length new) n out) in
+    let q : part ≡ new ++ drop (n + length new) out = p ∙ ap (over new) (rest-whole out n) ∙ ap (λ x. new ++ x) (drop-drop (length new) n out) in
     simp (q, none, append-nil)
 
 -- an event
 module _ (e : Event) (out : List ℕ) (n : ℕ) (room : n + length (encoded e) ≤ length out) where
   rest-room : 8 ≤ length (take (length out - n) (drop n out))
-  rest-room = omega (arith, ap length (rest-whole out n (omega arith)), length-drop n out, length-encoded e, room)
+  rest-room = omega (arith, ap length (rest-whole out n), length-drop n out, length-encoded e, room)
 
   pub written-size : encodedSize (take (length out - n) (drop n out)) ≡ length (encoded e)
   written-size = size-over (take (length out - n) (drop n out)) rest-room ∙ sym (length-encoded e)

@@ -1,17 +1,17 @@
 -- Laws of decimal numbers: what is written is read back, and what reads is what would be written.
 use Prim.Native.Nat.{ℕ, zero, suc, _+_, _-_, _*_, _/_, _%_, _≤_, _<_}
 use native.Mathlib.Omega.{arith}
-use native.Mathlib.Numerals.{add-one}
 use mathlib.Core.Path.{_≡_, refl, sym, ap, ap₂, subst, _∙_}
 use mathlib.Core.Bool.{true, false, not, _&&_}
 use mathlib.Core.List.{List, [], _∷_, _++_, append-assoc, append-nil}
 use lib.ListN.{length, getD, set, take, drop, replicate, length-append, List·getD-append}
-use lib.Seq.{drop-cons, set-at, take-append-seam}
+use lib.Seq.{take-append-seam}
 use lib.Dec.{T, leb, ltb, eqb}
 use borrow.Author.Tests.{lt-ltb, le-ltb, le-leb, ltb-true, ltb-false, leb-true, leb-false, eqb-true, eq-eqb, not-true}
 use Rattle.lists.specs.Lists.{allOf, over}
 use Rattle.lists.proofs.Tests.{by, and-true}
-use Rattle.lists.proofs.Lists.{all-none, all-cons}
+use Rattle.lists.proofs.Lists.{all-none, all-first, all-more, all-both}
+use Rattle.lists.proofs.Places.{over-more}
 use Rattle.decimal.specs.declared.Digits.{Digits}
 use Rattle.decimal.specs.Decimal.{digit, digits, decimal, written, isDigit, valueFrom, valueOf, zeroLed, isNumber}
 
@@ -67,15 +67,12 @@ unfolding valueFrom
 value-snoc v [] c = refl
 value-snoc v (x ∷ w) c = value-snoc (10 * v + (x - 48)) w c
 
-all-snoc : (w : List ℕ) (c : ℕ) → allOf isDigit w ≡ true → isDigit c ≡ true → allOf isDigit (w ++ (c ∷ [])) ≡ true
-all-snoc [] c p q = all-cons isDigit c [] ∙ ap (λ b. b && allOf isDigit []) q ∙ all-none isDigit
-all-snoc (x ∷ w) c p q =
-    let h : (isDigit x ≡ true) × (allOf isDigit w ≡ true) = and-true (isDigit x) (allOf isDigit w) (sym (all-cons isDigit x w) ∙ p) in
-    all-cons isDigit x (w ++ (c ∷ [])) ∙ ap₂ (λ a b. a && b) (h .0) (all-snoc w c (h .1) q)
-
 pub digit-is : (c : ℕ) → 48 ≤ c → c ≤ 57 → isDigit c ≡ true
 unfolding isDigit
 digit-is c p q = ap₂ (λ a b. a && b) (le-leb 48 c p) (le-leb c 57 q)
+
+digit-alone : (c : ℕ) → 48 ≤ c → c ≤ 57 → allOf isDigit (c ∷ []) ≡ true
+digit-alone c p q = all-more isDigit c [] (digit-is c p q) (all-none isDigit)
 
 pub is-digit : (c : ℕ) → isDigit c ≡ true → (48 ≤ c) × (c ≤ 57)
 unfolding isDigit
@@ -95,14 +92,14 @@ written-as = by-digits Written
     (λ n h. record {
       some = omega arith;
       worth = omega arith;
-      all-digits = all-cons isDigit (digit n) [] ∙ ap₂ (λ a b. a && b) (digit-is (digit n) (omega arith) (omega arith)) (all-none isDigit);
+      all-digits = digit-alone (digit n) (omega arith) (omega arith);
       long = λ l. absurd (omega arith);
       zero-first = λ z. omega arith;
     })
     (λ n h w p. record {
       some = omega (arith, length-append w (digit (n % 10) ∷ []));
       worth = value-snoc 0 w (digit (n % 10)) ∙ omega (arith, p .worth);
-      all-digits = all-snoc w (digit (n % 10)) (p .all-digits) (digit-is (digit (n % 10)) (omega arith) (omega arith));
+      all-digits = all-both isDigit w (digit (n % 10) ∷ []) (p .all-digits) (digit-alone (digit (n % 10)) (omega arith) (omega arith));
       long = λ l. h;
       zero-first = λ z. let q : n / 10 ≡ 0 = p .zero-first (first (digit (n % 10)) w p z) in absurd (omega arith);
     })
@@ -139,7 +136,7 @@ tail-written : (v : ℕ) (w : List ℕ) → 1 ≤ v → allOf isDigit w ≡ true
 unfolding valueFrom
 tail-written v [] h d = sym (append-nil (decimal v))
 tail-written v (c ∷ w) h d =
-    let p : (isDigit c ≡ true) × (allOf isDigit w ≡ true) = and-true (isDigit c) (allOf isDigit w) (sym (all-cons isDigit c w) ∙ d) in
+    let p = all-first isDigit c w d in
     let q : (48 ≤ c) × (c ≤ 57) = is-digit c (p .0) in
     let u : ℕ = 10 * v + (c - 48) in
     let tenth : u / 10 ≡ v = omega arith in
@@ -196,7 +193,7 @@ decimal-value limit w h = go w (reads limit w h)
     go : (w : List ℕ) → Reads limit w → decimal (valueOf w) ≡ w
     go [] r = absurd (omega (arith, r .some))
     go (c ∷ w) r =
-        let d = and-true (isDigit c) (allOf isDigit w) (sym (all-cons isDigit c w) ∙ r .all-digits) in
+        let d = all-first isDigit c w (r .all-digits) in
         let b = is-digit c (d .0) in
         value-first c w (b .0) (b .1) (d .1) (r .led)
 
@@ -223,14 +220,6 @@ pub size-five : (n : ℕ) → n < 100000 → length (decimal n) ≤ 5
 size-five n h = size-step n 10000 4 h (λ g. size-step (n / 10) 1000 3 g (size-three (n / 10 / 10)) (omega arith)) (omega arith)
 
 -- ---- In five bytes
-
-over-more : (w z : List ℕ) (c : ℕ) → length w < length z → set (over w z) (length w) c ≡ over (w ++ (c ∷ [])) z
-unfolding over
-over-more w z c h =
-    ap (λ r. set (w ++ r) (length w) c) (drop-cons z (length w) 0 h)
-    ∙ set-at w (getD z (length w) 0) (drop (suc (length w)) z) c (length w) refl
-    ∙ sym (append-assoc w (c ∷ []) (drop (suc (length w)) z))
-    ∙ ap (λ k. (w ++ (c ∷ [])) ++ drop k z) (sym (length-append w (c ∷ []) ∙ add-one (length w)))
 
 -- one digit
 pub written-one : (n : ℕ) → n < 10 → record { bytes = set (replicate 5 0) 0 (digit n); len = 1 } ≡ written n

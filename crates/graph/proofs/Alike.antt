@@ -21,7 +21,8 @@ use Rattle.graph.specs.Edges.{makes, edgesOf, edges}
 use Rattle.graph.specs.Violation.{edgesUpTo, cyclicUpTo, shortest, transactionAt, walk, cycleOf}
 use Rattle.graph.specs.Serial.{threadOf, serialOrder}
 use Rattle.graph.specs.Named.{named}
-use Rattle.graph.specs.Held.{shown, labelledAs}
+pub use Rattle.graph.specs.Held.{shownOf}
+use Rattle.graph.specs.Held.{labelledAs}
 use Rattle.graph.proofs.Clash.{inWords}
 
 -- two operations that the graph doesn't tell apart
@@ -29,10 +30,6 @@ pub record Alike (a b : Event) : Type 0 where
   pub thread : a .thread ≡ b .thread
   pub kind-is : kind (a .op) ≡ kind (b .op)
   pub target-is : target (a .op) ≡ target (b .op)
-
--- an operation as arrays show it, by its thread, kind and target
-abbrev pub shownOf : Event → Event
-shownOf e = shown (e .thread) (kind (e .op)) (target (e .op))
 
 pub shown-alike : (e : Event) → Alike (shownOf e) e
 unfolding operation

@@ -7,13 +7,17 @@ use lib.Dec.{leb}
 use lib.ListN.{getD}
 use Rattle.record.specs.declared.Event.{Event}
 use Rattle.record.specs.declared.Op.the-variants.{Read}
-use Rattle.record.specs.Record.{operation}
+use Rattle.record.specs.Record.{kind, target, operation}
 use Rattle.lists.specs.Lists.{below}
 use Rattle.graph.specs.Transactions.{Labelled}
 
 -- an operation by its thread, kind and target, all that the graph looks at
 abbrev pub shown : ℕ → ℕ → ℕ → Event
 shown t k x = record { thread = t; op = operation k x 0 }
+
+-- an operation so shown: without its value
+abbrev pub shownOf : Event → Event
+shownOf e = shown (e .thread) (kind (e .op)) (target (e .op))
 
 -- the kind of such an operation: any number stands for one, as in `operation`
 unfoldable pub kindIn : ℕ → ℕ

@@ -24,7 +24,7 @@ use Rattle.graph.specs.Arranged.{workSize, Arrangement, named, found, fi
 use Rattle.graph.specs.Engine.{recordAt, held, Labels, Stands, Sought}
 use Rattle.graph.specs.Finished.{orderBy, walkBy, cycleBy, namedBy, foundBy, finished}
 use Rattle.lists.proofs.Tests.{by, T-of}
-use Rattle.lists.proofs.Lists.{Among, first-same, earliest}
+use Rattle.lists.proofs.Lists.{Among, first-same, earliest, at-among}
 use Rattle.rows.proofs.Laws.{cleared-is}
 use Rattle.graph.proofs.Numbers.{sane-none, labels-lt, labelled-take}
 use Rattle.graph.proofs.Round.{blank, number-at, labelled-length}
@@ -41,11 +41,6 @@ pub record Ready (es : List Event) (p : ℕ) (before work : List ℕ) : Type 0 w
   pub size : length work ≡ length before
   pub rest : drop workSize work ≡ drop workSize before
 
-among-at : {A : Type 0} (d : A) (l : List A) (k : ℕ) → k < length l → Among (getD l k d) l
-among-at d [] k h = absurd (omega arith)
-among-at d (x ∷ l) zero h = Among.top
-among-at d (x ∷ l) (suc k) h = Among.deeper (among-at d l k (omega arith))
-
 module _ (n : ℕ) (all : List Event) (labels : List ℕ) (m : ℕ) (h : Labels n all labels (Done m)) where
   abbrev es : List Event
   es = take n all
@@ -58,7 +53,7 @@ module _ (n : ℕ) (all : List Event) (labels : List ℕ) (m : ℕ) (h : Labels 
   unfolding transactions
   labels-below i k =
       let in-xs : Among (recordAt all labels i) (labelled es) =
-      subst (λ l. Among (recordAt all labels i) l) (sym (h .0)) (subst (λ x. Among x xs) (held-at i n all labels blank k) (among-at blank xs i (omega (arith, length-held n all labels)))) in
+      subst (λ l. Among (recordAt all labels i) l) (sym (h .0)) (subst (λ x. Among x xs) (held-at i n all labels blank k) (at-among xs i blank (omega (arith, length-held n all labels)))) in
       omega (arith, labels-lt none-yet es sane-none (recordAt all labels i) in-xs, h .1)
 
   -- the prefixes of the arrays are those of the events

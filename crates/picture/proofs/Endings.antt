@@ -12,7 +12,7 @@ use Rattle.record.specs.declared.Event.{Event}
 use Rattle.record.specs.Faults.{Check, check, firstFault}
 use Rattle.record.proofs.Laws.{none-first, first-of-both, second-of-both}
 use Rattle.lists.specs.Lists.{over}
-use Rattle.lists.proofs.Lists.{Among}
+use Rattle.lists.proofs.Lists.{Among, at-among}
 use Rattle.rows.specs.Bits.{cleared}
 use Rattle.rows.proofs.Laws.{cleared-is}
 use Rattle.graph.specs.Transactions.{Labelled, none-yet, labelled, transactions}
@@ -39,12 +39,6 @@ use Rattle.picture.specs.Linking.{Links, countedFrom}
 use Rattle.picture.specs.Putting.{textOf}
 use Rattle.picture.proofs.Counts.{counted-transactions}
 use Rattle.picture.proofs.Texts.{text-is}
-
--- what stands at a place of a list is among it
-pub at-among : {A : Type 0} (l : List A) (i : ℕ) (d : A) → i < length l → Among (getD l i d) l
-at-among [] i d h = absurd (omega arith)
-at-among (x ∷ l) zero d h = Among.top
-at-among (x ∷ l) (suc i) d h = Among.deeper (at-among l i d (omega arith))
 
 -- ---- 1, 2 and 4
 

@@ -2,7 +2,7 @@
 use Prim.Native.Nat.{ℕ, _<_, _≤_}
 use native.Mathlib.Omega.{arith}
 use mathlib.Core.Path.{_≡_, refl, sym, ap, ap₂, _∙_, subst}
-use mathlib.Core.Bool.{Bool, true, false, cond, _&&_, _||_, or-true, or-false}
+use mathlib.Core.Bool.{Bool, true, false, cond, _&&_, _||_, or-true, or-false, and-false}
 use mathlib.Core.List.{List, [], _∷_, _++_}
 use borrow.Author.Tests.{eq-eqb, ne-eqb}
 use lib.ListN.{length, drop}
@@ -10,12 +10,11 @@ use lib.Dec.{eqb}
 use Rattle.lists.specs.Lists.{someOf}
 use Rattle.trace.specs.Paths.{hasEdge}
 use Rattle.lists.proofs.Tests.{by, by-same}
-use Rattle.lists.proofs.Lists.{some-cons}
+use Rattle.lists.proofs.Lists.{some-cons, some-snoc, some-append}
 use Rattle.rows.specs.Bits.{has, marked, cleared}
 use Rattle.rows.proofs.Laws.{marked-same, marked-other, length-marked, rest-marked, length-cleared, cleared-none}
 use Rattle.graph.specs.Transactions.{Labelled}
 use Rattle.graph.specs.Edges.{makes, edges}
-use Rattle.graph.proofs.Ends.{some-append}
 use Rattle.graph.proofs.Steps.{edges-snoc}
 use Rattle.picture.specs.Linking.{Links}
 
@@ -25,10 +24,6 @@ unfolding hasEdge edges someOf
 links-none w long = record { long = omega (arith, length-cleared w long); is = λ a b ha hb. cleared-none w long a b ha hb }
 
 -- ---- One bit more
-
-and-false : (b : Bool) → (b && false) ≡ false
-and-false true = refl
-and-false false = refl
 
 marked-is : (w : List ℕ) (s t : ℕ) → s < 512 → t < 512 → 4096 ≤ length w → (a b : ℕ) → a < 512 → b < 512
     → has (marked w s t) a b ≡ (has w a b || (eqb t b && eqb s a))
@@ -57,10 +52,6 @@ partly-none xs x w l = record {
   bits = λ a b ha hb. l .is a b ha hb
       ∙ sym (ap (λ c. hasEdge (edges xs) a b || c) (and-false (eqb (x .transaction) b)) ∙ or-false (hasEdge (edges xs) a b));
 }
-
-some-snoc : {A : Type 0} (p : A → Bool) (l : List A) (x : A) → someOf p (l ++ (x ∷ [])) ≡ (someOf p l || p x)
-unfolding someOf
-some-snoc p l x = some-append p l (x ∷ []) ∙ ap (λ c. someOf p l || c) (some-cons p x [] ∙ or-false (p x))
 
 -- an edge or one that is made, or one that is made now
 gather : (e b s n : Bool) → ((e || (b && s)) || (b && n)) ≡ (e || (b && (s || n)))

@@ -14,7 +14,7 @@ use Rattle.record.specs.declared.Event.{Event}
 use Rattle.lists.specs.Lists.{keep, each, from, below, over}
 use Rattle.trace.specs.Paths.{Edge, hasEdge}
 use Rattle.lists.proofs.Tests.{by}
-use Rattle.lists.proofs.Lists.{Among, among-at, length-from, from-at, from-le, below-has, below-bound, keep-true, keep-false, keep-among, keep-has, count-all, among-map, among-unmap}
+use Rattle.lists.proofs.Lists.{Among, among-at, length-from, from-at, from-le, below-has, below-bound, keep-true, keep-false, keep-among, keep-has, count-all, among-map, among-unmap, append-among, among-second, at-among}
 use Rattle.trace.proofs.Reach.{Bounded, edge-below}
 use Rattle.graph.specs.Transactions.{none-yet, labelled, transactions}
 use Rattle.graph.specs.Edges.{edges}
@@ -26,18 +26,9 @@ use Rattle.picture.specs.Picture.{opening, closing, transactionLine, edg
 use Rattle.picture.specs.Drawn.{refusal, fitted, drawn}
 use Rattle.picture.specs.Meaning.{Earlier, Shows, roomForAll, Demanded}
 use Rattle.picture.proofs.Texts.{transaction-size, edge-size}
-use Rattle.picture.proofs.Endings.{at-among, refusal-few}
+use Rattle.picture.proofs.Endings.{refusal-few}
 
 -- ---- What stands in the lists that are put together
-
-append-cases : {A : Type 0} {C : Type 0} (x : A) (u v : List A) → Among x (u ++ v) → (Among x u → C) → (Among x v → C) → C
-append-cases x [] v m f g = g m
-append-cases x (y ∷ u) v Among.top f g = f Among.top
-append-cases x (y ∷ u) v (Among.deeper m) f g = append-cases x u v m (λ n. f (Among.deeper n)) g
-
-among-second : {A : Type 0} {x : A} (u v : List A) → Among x v → Among x (u ++ v)
-among-second [] v m = m
-among-second (y ∷ u) v m = Among.deeper (among-second u v m)
 
 each-has : {A B : Type 0} (f : A → List B) (l : List A) {x : A} {y : B} → Among x l → Among y (f x) → Among y (each f l)
 unfolding each
@@ -46,7 +37,7 @@ each-has f (z ∷ l) (Among.deeper i) m = among-second (f z) (each f l) (each-ha
 
 each-of : {A B : Type 0} (f : A → List B) (l : List A) (y : B) → Among y (each f l) → (x : A) × Among x l × Among y (f x)
 unfolding each
-each-of f (z ∷ l) y m = append-cases y (f z) (each f l) m
+each-of f (z ∷ l) y m = append-among y (f z) (each f l) m
     (λ i. (z, Among.top, i))
     (λ i. let r = each-of f l y i in (r .0, Among.deeper (r .1), r .2))
 
@@ -59,7 +50,7 @@ Ordered (e ∷ l) = ((f : Edge) → Among f l → Earlier e f) × Ordered l
 ordered-append : (l m : List Edge) → Ordered l → Ordered m → ((e f : Edge) → Among e l → Among f m → Earlier e f) → Ordered (l ++ m)
 ordered-append [] m p q h = q
 ordered-append (e ∷ l) m p q h =
-    ((λ f i. append-cases f l m i (p .0 f) (λ j. h e f Among.top j)), ordered-append l m (p .1) q (λ x f i j. h x f (Among.deeper i) j))
+    ((λ f i. append-among f l m i (p .0 f) (λ j. h e f Among.top j)), ordered-append l m (p .1) q (λ x f i j. h x f (Among.deeper i) j))
 
 ordered-at : (l : List Edge) (d : Edge) → Ordered l → (i j : ℕ) → i < j → j < length l → Earlier (getD l i d) (getD l j d)
 ordered-at [] d p i j h k = absurd (omega arith)

@@ -10,7 +10,7 @@ use lib.Dec.{T, ltb}
 use Rattle.lists.specs.Lists.{someOf}
 use Rattle.trace.specs.Paths.{Edge, reaches, cyclic}
 use Rattle.lists.proofs.Tests.{by, by-same, or-and-self}
-use Rattle.lists.proofs.Lists.{Among, some-cons, some-same}
+use Rattle.lists.proofs.Lists.{Among, some-cons, some-same, some-append}
 use Rattle.trace.proofs.Closing.{reaches-goal, reaches-beyond, cyclic-goal}
 use Rattle.rows.specs.Bits.{has, joined, begun}
 use Rattle.rows.proofs.Laws.{length-begun, begun-own, joined-row, joined-other, length-joined, rest-joined}
@@ -18,7 +18,6 @@ use Rattle.graph.specs.Conflict.{conflict}
 use Rattle.graph.specs.Transactions.{Labelled}
 use Rattle.graph.specs.Edges.{makes, edges}
 use Rattle.graph.specs.Engine.{Stands, Spread, Closed}
-use Rattle.graph.proofs.Ends.{some-append}
 use Rattle.graph.proofs.Steps.{edges-snoc}
 
 -- the numbers are as many as they were, and from 4,096 on they are the same

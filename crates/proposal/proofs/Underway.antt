@@ -15,7 +15,7 @@ use Rattle.replay.specs.Machine.{fresh, possible}
 use Rattle.lists.specs.Lists.{allOf, someOf}
 use Rattle.trace.specs.Paths.{cyclic}
 use Rattle.lists.proofs.Tests.{by-same, and-left}
-use Rattle.lists.proofs.Lists.{Among, map-append, all-has}
+use Rattle.lists.proofs.Lists.{Among, map-append, all-has, among-second}
 use Rattle.graph.specs.Transactions.{labelledFrom}
 use Rattle.graph.specs.Edges.{edges}
 use Rattle.graph.specs.Engine.{pastEnd}
@@ -23,7 +23,7 @@ use Rattle.checker.specs.declared.Refusal.{Refusal}
 use Rattle.proposal.specs.Walk.{Placed, eventsIn, placed, grown, walked, finished, roomChecks, stop}
 use Rattle.proposal.specs.Weaving.{placedAs, woven}
 use Rattle.proposal.specs.Keeping.{Kept, Stepping, stepping, Walked}
-use Rattle.proposal.proofs.Walks.{Fine, fine-next, stop-on, stop-at, among-last}
+use Rattle.proposal.proofs.Walks.{Fine, fine-next, stop-on, stop-at}
 use Rattle.proposal.proofs.Weaving.{placed-unmarked, placed-marked}
 use Rattle.proposal.proofs.Keeping.{Represents, Right, stepping-right}
 
@@ -89,7 +89,7 @@ module _ (count : ℕ) (all : List Event) (work₀ : List ℕ) where
       pub thread-small : e .thread < 16
       unfolding inRange
       thread-small =
-          let fit : T (inRange e) = fine-now .fit e (among-last front (e ∷ later) Among.top) in
+          let fit : T (inRange e) = fine-now .fit e (among-second front (e ∷ later) Among.top) in
           omega (arith, leb→le (e .thread) 15 (and-left (leb (e .thread) 15) (leb (target (e .op)) (targetLimit (kind (e .op))) && leb (value (e .op)) 65535) fit))
 
       -- the step that the code takes is that of the walk

@@ -18,7 +18,7 @@ use Rattle.replay.specs.Machine.{fresh, faultOf, act, after, possible}
 use Rattle.lists.specs.Lists.{keep}
 use Rattle.trace.specs.Paths.{cyclic}
 use Rattle.lists.proofs.Tests.{by, and-both}
-use Rattle.lists.proofs.Lists.{Among, Before, map-append, keep-true, keep-false}
+use Rattle.lists.proofs.Lists.{Among, Before, map-append, keep-true, keep-false, among-second}
 use Rattle.graph.specs.Transactions.{none-yet, begins, labelled, transactions, transactionLimit}
 use Rattle.graph.specs.Edges.{edges}
 use Rattle.graph.proofs.Steps.{among-first, before-first}
@@ -63,17 +63,13 @@ pub record Fine (built es : List Event) : Type 0 where
   pub fit : AllInRange (built ++ es)
   pub acyclic : cyclic (edges (labelled built)) ≡ false
 
-pub among-last : {A : Type 0} {y : A} (us vs : List A) → Among y vs → Among y (us ++ vs)
-among-last [] vs m = m
-among-last (x ∷ us) vs m = Among.deeper (among-last us vs m)
-
 pub among-with : {A : Type 0} {y : A} (us : List A) (z : A) (vs : List A) → Among y (us ++ vs) → Among y (us ++ (z ∷ vs))
 among-with [] z vs m = Among.deeper m
 among-with (x ∷ us) z vs Among.top = Among.top
 among-with (x ∷ us) z vs (Among.deeper m) = Among.deeper (among-with us z vs m)
 
 pub among-without : {A C : Type 0} {y : A} (us : List A) (z : A) (vs : List A) → Among y (us ++ (z ∷ vs)) → (Among y (us ++ vs) → C) → (y ≡ z → C) → C
-among-without us z vs m f g = among-parts us z vs m (λ i. f (among-first us vs i)) g (λ i. f (among-last us vs i))
+among-without us z vs m f g = among-parts us z vs m (λ i. f (among-first us vs i)) g (λ i. f (among-second us vs i))
 
 -- a yield that is possible changes nothing
 pub yield-in : (s : State) (e : Event) (es : List Event) → faultOf s (yieldOf (e .thread)) ≡ 0 → T (possible s (e ∷ es)) → T (possible s (yieldOf (e .thread) ∷ e ∷ es))
@@ -138,7 +134,7 @@ module _ (built : List Event) (e : Event) (es : List Event) (f : Fine built (e �
 
     in-range : AllInRange (built ++ (yielding ∷ e ∷ es))
     in-range x m = among-without built yielding (e ∷ es) m (f .fit x)
-        (λ q. subst (λ w. T (inRange w)) (sym q) (yield-ranged e (f .fit e (among-last built (e ∷ es) Among.top))))
+        (λ q. subst (λ w. T (inRange w)) (sym q) (yield-ranged e (f .fit e (among-second built (e ∷ es) Among.top))))
 
     -- the recording with yield and record is orderly
     pub orderly-yield : Orderly ((built ++ (yielding ∷ [])) ++ (e ∷ []))

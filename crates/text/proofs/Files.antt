@@ -13,15 +13,15 @@ use Rattle.lists.specs.Lists.{keep, each, over}
 use Rattle.lists.proofs.Tests.{by}
 use Rattle.lists.proofs.Lists.{keep-true, keep-false}
 use Rattle.record.specs.declared.Event.{Event}
-use Rattle.record.specs.declared.Fault.{Fault as Refusal}
+use Rattle.record.specs.declared.Refusal.{Refusal}
 use Rattle.record.specs.declared.Decoded.{Decoded}
 use Rattle.record.specs.declared.Decoded.the-variants.{Good, Refused}
 use Rattle.record.specs.Faults.{firstFault}
 use Rattle.record.specs.Record.{sizeCheck, checks, event, encoded, decoded, inRange, records, recordsOf}
 use Rattle.record.proofs.Laws.{none-first, decode-encoded, encode-decoded, decoded-range, length-encoded, decoded-passed, decoded-failed}
 use Rattle.text.specs.Line.{lineFeed, spaced, wordsOf, lineOf, lineRead}
-use Rattle.text.specs.File.{done, refused, Fault, firstRefused, found, events, feeds, lines, readChecks, readText, writeChecks, writeText}
-use Rattle.text.specs.Demands.{Ended, result}
+use Rattle.text.specs.File.{done, refused, firstRefused, found, events, feeds, lines, readChecks, readText, writeChecks, writeText}
+use Rattle.text.specs.Meaning.{Ended, result}
 use Rattle.text.proofs.Words.{lacks, lacks-first, lines-first, lines-together}
 use Rattle.text.proofs.Lines.{body-lacks, read-written, written-read, Fourteen, line-fourteen}
 
@@ -83,7 +83,7 @@ record-counted bs f h = go (firstFault (sizeCheck bs ∷ checks bs)) refl
         let g : Good (event bs) ≡ Refused f = sym (decoded-passed bs z) ∙ h in
         let no : _≡_ {A = ℕ} 0 1 = cc g in absurd (omega arith)
     go (suc n) z =
-        let g : Refused (record { number = suc n }) ≡ Refused f = sym (decoded-failed bs n z) ∙ h in
+        let g : Refused (record { number = suc n; place = 0 }) ≡ Refused f = sym (decoded-failed bs n z) ∙ h in
         let same : suc n ≡ f .number = cc g in omega arith
 
 -- ---- Every event in range
@@ -173,7 +173,7 @@ unfolding readText
 read-size text out zero h l = absurd (omega arith)
 read-size text out (suc n) h l = rw (h, readText)
 
-pub read-line-refused : (text out : List ℕ) (f : Fault) → firstFault (readChecks text out) ≡ 0 → firstRefused lineRead 0 (lines text) ≡ f → 1 ≤ f .number
+pub read-line-refused : (text out : List ℕ) (f : Refusal) → firstFault (readChecks text out) ≡ 0 → firstRefused lineRead 0 (lines text) ≡ f → 1 ≤ f .number
     → readText text out ≡ refused (f .number) (f .place) out
 unfolding readText
 read-line-refused text out f h g l = at (f .number) (ap (λ x. x .number) g) l
@@ -198,7 +198,7 @@ unfolding writeText
 write-size input out zero h l = absurd (omega arith)
 write-size input out (suc n) h l = rw (h, writeText)
 
-pub write-record-refused : (input out : List ℕ) (f : Fault) → firstFault (writeChecks input) ≡ 0 → firstRefused decoded 0 (recordsOf input) ≡ f → 1 ≤ f .number
+pub write-record-refused : (input out : List ℕ) (f : Refusal) → firstFault (writeChecks input) ≡ 0 → firstRefused decoded 0 (recordsOf input) ≡ f → 1 ≤ f .number
     → writeText input out ≡ refused (f .number) (f .place) out
 unfolding writeText
 write-record-refused input out f h g l = at (f .number) (ap (λ x. x .number) g) l

@@ -6,4 +6,4 @@ pub mod Readings
 pub mod Makings
 pub mod Wholes
 pub mod Endings
-pub mod Demands
+pub mod Right

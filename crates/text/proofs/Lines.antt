@@ -17,7 +17,7 @@ use Rattle.record.specs.Record.{kind, target, value, targetLimit, operation, in
 use Rattle.record.proofs.Laws.{Shape, shape, Parts, parts}
 use Rattle.decimal.specs.Decimal.{decimal, valueFrom, valueOf, isNumber}
 use Rattle.text.specs.Line.{space, lineFeed, name, fieldCount, fields, wordsOf, spaced, lineOf, words, kindNamed, limits, fit, formless, readFields, readOperation, readWords, lastByte, butLast, lineRead}
-use Rattle.text.specs.Demands.{OneLine}
+use Rattle.text.specs.Meaning.{OneLine}
 use Rattle.decimal.proofs.Decimals.{value-decimal, number-decimal, number-within, decimal-value}
 use Rattle.text.proofs.Words.{lacks, AllLack, decimal-lacks, decimals-lack, spaced-lacks, name-lacks, kind-name, name-named, named-low, words-spaced, spaced-words}
 
@@ -317,11 +317,6 @@ written-read line e h = by (eqb (lastByte line) lineFeed)
 -- every possible record has exactly one line
 pub one-line : (e : Event) → T (inRange e) → OneLine e
 one-line e r = record { line = lineOf e; reads = read-written e r; only = λ l h. sym (written-read l e h .0) }
-
--- so two records never share a line
-pub line-tells : (e f : Event) → T (inRange e) → T (inRange f) → lineOf e ≡ lineOf f → e ≡ f
-line-tells e f r s h =
-    let g : Good e ≡ Good f = sym (read-written e r) ∙ ap lineRead h ∙ read-written f s in cc g
 
 -- ---- The only refusal of a line is 14
 

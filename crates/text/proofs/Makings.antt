@@ -1,13 +1,10 @@
 -- Laws for the functions that make a line: bytes put after it, one after the other.
 use Prim.Native.Nat.{ℕ, _+_, _≤_, _<_}
 use native.Mathlib.Omega.{arith}
-use native.Mathlib.Numerals.{add-one}
 use mathlib.Core.Path.{_≡_, refl, sym, ap, subst, _∙_}
 use mathlib.Core.List.{List, [], _∷_, _++_, append-assoc, append-nil, map}
-use lib.ListN.{length, getD, take, length-append}
-use lib.Seq.{take-suc}
+use lib.ListN.{length, take, length-append}
 use borrow.Author.Tests.{le-leb, lt-leb}
-use Rattle.lists.proofs.Tests.{by}
 use Rattle.record.specs.declared.Event.{Event}
 use Rattle.record.specs.declared.Op.{Op}
 use Rattle.record.specs.Record.{kind, target, value}
@@ -29,11 +26,6 @@ longer-both {a} {b} l m r p q =
 
 pub longer-as : {a b : List ℕ} (l r : Line) → a ≡ b → Longer l a r → Longer l b r
 longer-as l r e p = subst (λ x. Longer l x r) e p
-
--- ---- A word, byte by byte
-
-pub word-on : (w : List ℕ) (j : ℕ) → j < length w → take (j + 1) w ≡ take j w ++ (getD w j 0 ∷ [])
-word-on w j h = ap (λ i. take i w) (add-one j) ∙ take-suc w j 0 h
 
 -- ---- The numbers after the name
 

@@ -3,9 +3,9 @@ use Prim.Native.Nat.{ℕ, suc, _+_, _-_, _≤_, _<_}
 use native.Mathlib.Omega.{arith}
 use mathlib.Core.Path.{_≡_, refl, sym, ap, ap₂, subst, _∙_}
 use mathlib.Core.Logic.{_≢_}
-use mathlib.Core.Bool.{Bool, true, false, _&&_}
+use mathlib.Core.Bool.{Bool, true, false, _&&_, and-true, and-false}
 use mathlib.Core.List.{List, [], _∷_}
-use lib.ListN.{length, getD, take, drop, length-drop}
+use lib.ListN.{length, getD, take, drop}
 use lib.Seq.{take-all}
 use lib.Dec.{leb, ltb, eqb}
 use borrow.Author.Tests.{le-leb, lt-leb, leb-true, leb-false, ltb-true, ltb-false}
@@ -53,10 +53,6 @@ words-split (b ∷ bs) h = by (eqb b space)
     on : (n : ℕ) → suc n + 1 ≡ suc (n + 1)
     on n = omega arith
 
--- what is lent as the part from a on
-pub rest-is : (bs : List ℕ) (a : ℕ) → take (length bs - a) (drop a bs) ≡ drop a bs
-rest-is bs a = take-all (length bs - a) (drop a bs) (omega (arith, length-drop a bs))
-
 -- ---- A number by its code
 
 pub code-none : (limit : ℕ) (w : List ℕ) → numberIn limit w ≡ 0 → isNumber limit w ≡ false
@@ -81,13 +77,9 @@ code-some limit w n h z = by (isNumber limit w)
 pub fit-one : (m : ℕ) (w : List ℕ) → fit (m ∷ []) (words w) ≡ isNumber m w
 unfolding fit
 fit-one m w = by (isNumber m w)
-    (λ e. ap (fit (m ∷ [])) (words-alone w (digits-lack space w (omega arith) (number-digits m w e))) ∙ one (isNumber m w))
+    (λ e. ap (fit (m ∷ [])) (words-alone w (digits-lack space w (omega arith) (number-digits m w e))) ∙ and-true (isNumber m w))
     (λ e. none e (ltb (before space w) (length w)) refl)
   where
-    one : (b : Bool) → (b && true) ≡ b
-    one true = refl
-    one false = refl
-
     more : (b : Bool) (ws : List (List ℕ)) → 1 ≤ length ws → (b && fit [] ws) ≡ false
     more true [] l = absurd (omega arith)
     more false [] l = absurd (omega arith)
@@ -100,15 +92,11 @@ fit-one m w = by (isNumber m w)
         ∙ more (isNumber m (take (before space w) w)) (words (drop (before space w + 1) w)) (words-some (drop (before space w + 1) w)) ∙ sym e
     none e false l =
         let h : before space w ≡ length w = omega (arith, ltb-false (before space w) (length w) l, before-le space w) in
-        ap (fit (m ∷ [])) (words-whole w h) ∙ one (isNumber m w)
+        ap (fit (m ∷ [])) (words-whole w h) ∙ and-true (isNumber m w)
 
 -- a number is one word
 number-alone : (m : ℕ) (w : List ℕ) → isNumber m w ≡ true → words w ≡ w ∷ []
 number-alone m w e = words-alone w (digits-lack space w (omega arith) (number-digits m w e))
-
-and-false : (b : Bool) → (b && false) ≡ false
-and-false true = refl
-and-false false = refl
 
 limits-two : (k : ℕ) → k ≤ 2 → limits k ≡ 255 ∷ 65535 ∷ []
 unfolding limits fieldCount targetLimit

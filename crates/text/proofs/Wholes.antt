@@ -6,16 +6,15 @@ use mathlib.Core.Path.{_≡_, refl, sym, ap, ap₂, _∙_}
 use mathlib.Core.Logic.{_≢_}
 use mathlib.Core.Bool.{true, false, cond}
 use mathlib.Core.List.{List, [], _∷_, _++_, append-assoc, append-nil}
-use lib.ListN.{length, getD, set, take-append-drop, take, drop, length-append, length-take, length-drop, drop-of-length-le}
-use lib.Seq.{drop-cons, drop-drop, take-all, take-at, drop-at, length-take-le, take-suc, set-at}
+use lib.ListN.{length, getD, take-append-drop, take, drop, length-append, length-take, length-drop, drop-of-length-le}
+use lib.Seq.{drop-cons, drop-drop, take-at, drop-at, length-take-le}
 use lib.Dec.{eqb}
 use borrow.Author.Tests.{le-leb, lt-leb, eq-eqb, ne-eqb}
-use borrow.Rule.Slice.PartMut.{putMid}
 use Rattle.lists.specs.Lists.{keep, each, over}
 use Rattle.lists.proofs.Tests.{by}
 use Rattle.lists.proofs.Lists.{keep-true, keep-false, each-append}
 use Rattle.record.specs.declared.Event.{Event}
-use Rattle.record.specs.declared.Fault.{Fault as Refusal}
+use Rattle.record.specs.declared.Refusal.{Refusal}
 use Rattle.record.specs.declared.Decoded.{Decoded}
 use Rattle.record.specs.declared.Decoded.the-variants.{Good, Refused}
 use Rattle.record.specs.Record.{encoded, encodedOver, encodedSize, records, recordsOf}
@@ -146,15 +145,6 @@ part-none put d f h = ap (partBytes put) h
 
 -- ---- Written after what is written
 
--- what a callee wrote over the front of the part from a on, said of the whole
-pub put-over : (b xs ys : List ℕ) (a : ℕ) → a ≤ length xs → ys ≡ over b (take (length xs - a) (drop a xs)) → putMid a (length xs - a) xs ys ≡ take a xs ++ b ++ drop (a + length b) xs
-unfolding over
-put-over b xs ys a l e =
-    let k : length (drop a xs) ≤ length xs - a = omega (arith, length-drop a xs) in
-    let n : drop (length xs - a) (drop a xs) ≡ [] = drop-of-length-le (drop a xs) k in
-    let t : take (length xs - a) (drop a xs) ≡ drop a xs = take-all (length xs - a) (drop a xs) k in
-    simp (e, t, n, append-nil, drop-drop) (sym (append-assoc (take a xs) b (drop (a + length b) xs)))
-
 -- what is to be written, after n bytes of it are
 pub record Put (total old out : List ℕ) (n : ℕ) (rest : List ℕ) : Type 0 where
   pub same-size : length out ≡ length old
@@ -201,15 +191,6 @@ pub line-unfit : (e : Event) (old : List ℕ) → length old < length (lineOf e)
 unfolding lineRoom lineOver
 line-unfit e old h =
     (ap (λ t. cond t (length (lineOf e)) 0) (lt-leb (length (lineOf e)) (length old) h), ap (λ t. cond t (over (lineOf e) old) old) (lt-leb (length (lineOf e)) (length old) h))
-
--- the first i bytes copied from s over d, and one more
-pub copy-on : (s d : List ℕ) (i : ℕ) → i < length s → i < length d → set (take i s ++ drop i d) i (getD s i 0) ≡ take (i + 1) s ++ drop (i + 1) d
-copy-on s d i l m =
-    ap (λ r. set (take i s ++ r) i (getD s i 0)) (drop-cons d i 0 m)
-    ∙ set-at (take i s) (getD d i 0) (drop (suc i) d) (getD s i 0) i (length-take-le i s (omega arith))
-    ∙ sym (append-assoc (take i s) (getD s i 0 ∷ []) (drop (suc i) d))
-    ∙ ap (λ r. r ++ drop (suc i) d) (sym (take-suc s i 0 l))
-    ∙ ap (λ n. take n s ++ drop n d) (sym (add-one i))
 
 -- a line that holds bytes has them in its array
 pub holds-room : (l : Line) (bytes : List ℕ) → Holds l bytes → l .len ≤ length (l .bytes)

@@ -2,14 +2,14 @@
 use Prim.Native.Nat.{ℕ, zero, suc, _+_, _-_, _≤_, _<_}
 use native.Mathlib.Omega.{arith}
 use mathlib.Core.Path.{_≡_, refl, sym, ap, ap₂, subst, _∙_}
-use mathlib.Core.Bool.{Bool, true, false, not, _&&_}
+use mathlib.Core.Bool.{Bool, true, false, not}
 use mathlib.Core.List.{List, [], _∷_, _++_, map}
 use lib.ListN.{length, getD}
 use lib.Dec.{T, eqb}
-use borrow.Author.Tests.{eq-eqb, ne-eqb, eqb-true, not-true}
+use borrow.Author.Tests.{ne-eqb, eqb-true, not-true}
 use Rattle.lists.specs.Lists.{allOf, each}
 use Rattle.lists.proofs.Tests.{by, and-true}
-use Rattle.lists.proofs.Lists.{all-none, all-cons}
+use Rattle.lists.proofs.Lists.{all-none, all-first, all-more, all-both}
 use Rattle.decimal.specs.Decimal.{decimal, isDigit}
 use Rattle.text.specs.Line.{names, name, ascii, spaced, glued, words, sameWord, placeFrom, kindNamed, space, lineFeed}
 use Rattle.text.specs.File.{lines}
@@ -28,21 +28,17 @@ AllLack c (w ∷ ws) = (lacks c w ≡ true) × AllLack c ws
 
 pub lacks-first : (c x : ℕ) (w : List ℕ) → lacks c (x ∷ w) ≡ true → (eqb x c ≡ false) × (lacks c w ≡ true)
 lacks-first c x w h =
-    let p = and-true (not (eqb x c)) (lacks c w) (sym (all-cons (λ y. not (eqb y c)) x w) ∙ h) in
+    let p = all-first (λ y. not (eqb y c)) x w h in
     (not-true (eqb x c) (p .0), p .1)
 
 lacks-cons : (c x : ℕ) (w : List ℕ) → eqb x c ≡ false → lacks c w ≡ true → lacks c (x ∷ w) ≡ true
-lacks-cons c x w e h = all-cons (λ y. not (eqb y c)) x w ∙ ap₂ (λ a b. not a && b) e h
-
-lacks-both : (c : ℕ) (w v : List ℕ) → lacks c w ≡ true → lacks c v ≡ true → lacks c (w ++ v) ≡ true
-lacks-both c [] v p q = q
-lacks-both c (x ∷ w) v p q = let h = lacks-first c x w p in lacks-cons c x (w ++ v) (h .0) (lacks-both c w v (h .1) q)
+lacks-cons c x w e h = all-more (λ y. not (eqb y c)) x w (ap not e) h
 
 -- digits are above 47
 pub digits-lack : (c : ℕ) (w : List ℕ) → c < 48 → allOf isDigit w ≡ true → lacks c w ≡ true
 digits-lack c [] l h = all-none (λ y. not (eqb y c))
 digits-lack c (x ∷ w) l h =
-    let p = and-true (isDigit x) (allOf isDigit w) (sym (all-cons isDigit x w) ∙ h) in
+    let p = all-first isDigit x w h in
     let q = is-digit x (p .0) in
     lacks-cons c x w (ne-eqb x c (λ e. omega arith)) (digits-lack c w l (p .1))
 
@@ -58,7 +54,7 @@ pub spaced-lacks : (c : ℕ) (ws : List (List ℕ)) → eqb space c ≡ false �
 unfolding spaced
 spaced-lacks c [] e h = all-none (λ y. not (eqb y c))
 spaced-lacks c (w ∷ []) e h = h .0
-spaced-lacks c (w ∷ v ∷ ws) e h = lacks-both c w (space ∷ spaced (v ∷ ws)) (h .0) (lacks-cons c space (spaced (v ∷ ws)) e (spaced-lacks c (v ∷ ws) e (h .1)))
+spaced-lacks c (w ∷ v ∷ ws) e h = all-both (λ y. not (eqb y c)) w (space ∷ spaced (v ∷ ws)) (h .0) (lacks-cons c space (spaced (v ∷ ws)) e (spaced-lacks c (v ∷ ws) e (h .1)))
 
 -- ---- Words, cut apart and put together
 
@@ -121,11 +117,6 @@ words-spaced w [] h = words-alone w (h .0)
 words-spaced w (v ∷ ws) h = words-first w (spaced (v ∷ ws)) (h .0) ∙ ap (λ y. w ∷ y) (words-spaced v ws (h .1))
 
 -- ---- Names
-
-same-refl : (w : List ℕ) → sameWord w w ≡ true
-unfolding sameWord
-same-refl [] = refl
-same-refl (c ∷ w) = ap₂ (λ a b. a && b) (eq-eqb c c refl) (same-refl w)
 
 pub same-is : (w v : List ℕ) → sameWord w v ≡ true → w ≡ v
 unfolding sameWord

@@ -9,20 +9,17 @@ use Rattle.record.specs.declared.Event.{Event}
 use Rattle.record.specs.declared.Decoded.{Decoded}
 use Rattle.record.specs.declared.Decoded.the-variants.{Good, Refused}
 use Rattle.record.specs.Faults.{Check, check, firstFault}
+use Rattle.record.specs.Answers.{Numbers, refusedAs}
+use Rattle.record.specs.declared.Refusal.{Refusal}
 use Rattle.record.specs.Record.{recordSize, encoded, decoded, recordsOf}
 use Rattle.text.specs.declared.Outcome.{Outcome}
 use Rattle.text.specs.declared.Outcome.the-variants.{Done, Refused as Denied}
 use Rattle.text.specs.Line.{lineFeed, glued, lineOf, lineRead}
 
--- This paper's number and values for each case of an outcome.  0 done: the number of bytes written.  1 refused: number and record
-pub record Numbers : Type 0 where
-  pub kind : ℕ
-  pub first : ℕ
-  pub second : ℕ
-
+-- This paper's number and values for each case of an outcome.  0 done: the number of bytes written.  2 refused: number and record
 abbrev pub numbers : Outcome → Numbers
 numbers (Done bytes) = record { kind = 0; first = bytes; second = 0 }
-numbers (Denied r) = record { kind = 1; first = r .number; second = r .record }
+numbers (Denied r) = refusedAs r
 
 -- An outcome, and the output at its end
 pub record Ending : Type 0 where
@@ -38,17 +35,12 @@ done bytes out = record { answer = record { kind = 0; first = length bytes; seco
 
 -- refused: the output keeps its contents
 unfoldable pub refused : ℕ → ℕ → List ℕ → Ending
-refused number place out = record { answer = record { kind = 1; first = number; second = place }; out = out }
+refused number place out = record { answer = refusedAs (record { number = number; place = place }); out = out }
 
 -- ---- Parts of a file, each read by itself
 
--- a refusal's number and place; number 0 where there is none
-pub record Fault : Type 0 where
-  pub number : ℕ
-  pub place : ℕ
-
--- the first part that is refused decides. k is the number of the first part
-unfoldable pub firstRefused : (List ℕ → Decoded) → ℕ → List (List ℕ) → Fault
+-- the first part that is refused decides, with its place; number 0 where none is. k is the number of the first part
+unfoldable pub firstRefused : (List ℕ → Decoded) → ℕ → List (List ℕ) → Refusal
 firstRefused read k [] = record { number = 0; place = 0 }
 firstRefused read k (p ∷ ps) = elim (read p) [ Good e ↦ firstRefused read (suc k) ps | Refused f ↦ record { number = f .number; place = k } ]
 
@@ -78,7 +70,7 @@ readChecks text out = check 2 0 (leb (feeds text) 1024) ∷ check 3 0 (leb (reco
 -- A text read: 2, 3, then 14 at the first line without the form; else the records of its lines
 unfoldable pub readText : List ℕ → List ℕ → Ending
 readText text out =
-    let no : Fault = firstRefused lineRead 0 (lines text) in
+    let no : Refusal = firstRefused lineRead 0 (lines text) in
     elim (firstFault (readChecks text out)) [
       | zero ↦
           elim (no .number) [
@@ -97,7 +89,7 @@ writeChecks input = check 1 0 (eqb (length input % recordSize) 0) ∷ check 2 0 
 -- Records written: 1, 2, then 5 to 7 at the first record with one, then 3 where the text doesn't fit; else the line of each
 unfoldable pub writeText : List ℕ → List ℕ → Ending
 writeText input out =
-    let no : Fault = firstRefused decoded 0 (recordsOf input) in
+    let no : Refusal = firstRefused decoded 0 (recordsOf input) in
     let text : List ℕ = each lineOf (events decoded (recordsOf input)) in
     elim (firstFault (writeChecks input)) [
       | zero ↦

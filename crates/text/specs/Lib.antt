@@ -1,5 +1,5 @@
 pub mod Line
 pub mod File
 pub mod Examples
-pub mod Demands
+pub mod Meaning
 pub mod Steps

@@ -116,7 +116,7 @@ fit (m ∷ ms) (w ∷ ws) = isNumber m w && fit ms ws
 
 -- number 14: a line without this form
 abbrev pub formless : Decoded
-formless = Refused (record { number = 14 })
+formless = Refused (record { number = 14; place = 0 })
 
 -- the words after the name, read
 unfoldable pub readFields : ℕ → ℕ → List (List ℕ) → Decoded

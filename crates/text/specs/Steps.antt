@@ -9,11 +9,11 @@ use Rattle.lists.specs.Lists.{allOf, each}
 use Rattle.record.specs.declared.Event.{Event}
 use Rattle.record.specs.declared.Decoded.{Decoded}
 use Rattle.record.specs.declared.Decoded.the-variants.{Good, Refused}
-use Rattle.text.specs.declared.Refusal.{Refusal}
+use Rattle.record.specs.declared.Refusal.{Refusal}
 use Rattle.text.specs.declared.making.Line.{Line}
 use Rattle.decimal.specs.Decimal.{decimal, isDigit, valueFrom, valueOf, isNumber}
 use Rattle.text.specs.Line.{space, lineFeed}
-use Rattle.text.specs.File.{Fault, found, events}
+use Rattle.text.specs.File.{found, events}
 
 -- how many bytes stand before the first c; all where there is none
 unfoldable pub before : ℕ → List ℕ → ℕ
@@ -66,9 +66,9 @@ faultNumber (Good e) = 0
 faultNumber (Refused f) = f .number
 
 -- a refusal told by its two numbers
-pub record Told (r : Refusal) (f : Fault) : Type 0 where
+pub record Told (r : Refusal) (f : Refusal) : Type 0 where
   pub number : r .number ≡ f .number
-  pub place : r .record ≡ f .place
+  pub place : r .place ≡ f .place
 
 -- what is written for one part: nothing where it is refused
 unfoldable pub partBytes : (Event → List ℕ) → Decoded → List ℕ

@@ -6,15 +6,12 @@ mod whole;
 
 use record::Decoded;
 use record::Event;
+use record::Refusal;
+pub use whole::line_feeds;
 ghost use mathlib.Core.Path.{_≡_};
+ghost use Rattle.record.specs.Answers.{refusedAs};
 ghost use Rattle.text.specs.Line.{lineRead, lineOver, lineRoom};
 ghost use Rattle.text.specs.File.{numbers, ending, readText, writeText};
-
-// Why a file is refused: the number, and the line or the record that it is given at.
-pub struct Refusal {
-    pub number: u8,
-    pub record: usize,
-}
 
 // What reading or writing a file ends in: so many bytes written, or a refusal.
 pub enum Outcome {
@@ -24,9 +21,9 @@ pub enum Outcome {
 
 // A refusal that isn't at a line or a record.
 fn refused(number: u8) -> Outcome
-    ensures { λ r. ⌜ numbers r ≡ record { kind = 1; first = number; second = 0 } ⌝ }
+    ensures { λ r. ⌜ numbers r ≡ refusedAs (record { number = number; place = 0 }) ⌝ }
 {
-    Outcome::Refused(Refusal { number, record: 0 })
+    Outcome::Refused(Refusal { number, place: 0 })
 }
 
 // The event of a line, or number 14.
@@ -64,7 +61,7 @@ pub fn write_line(e: Event, out: &mut [u8]) -> usize
 pub fn read_text(text: &[u8], out: &mut [u8]) -> Outcome
     ensures { λ r. ⌜ ending r (now (out .exit)) ≡ readText (now (text .entry)) (now (out .entry)) ⌝ }
 {
-    let feeds = whole::feeds(text);
+    let feeds = line_feeds(text);
     if 1024 < feeds {
         return refused(2);
     }

@@ -4,8 +4,8 @@ use crate::scan::kind_named;
 use crate::scan::number;
 use record::Decoded;
 use record::Event;
-use record::Fault;
 use record::Op;
+use record::Refusal;
 ghost use mathlib.Core.Path.{_≡_};
 ghost use Prim.Native.Nat.{_≤_};
 ghost use Rattle.text.specs.Line.{words, readFields, readOperation, readWords};
@@ -15,7 +15,10 @@ ghost use Rattle.text.specs.Line.{formless as Line·formless};
 pub fn formless() -> Decoded
     ensures { λ r. ⌜ r ≡ Line·formless ⌝ }
 {
-    Decoded::Refused(Fault { number: 14 })
+    Decoded::Refused(Refusal {
+        number: 14,
+        place: 0,
+    })
 }
 
 // A target and a value, for the kinds 1 and 2.

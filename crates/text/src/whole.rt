@@ -1,23 +1,22 @@
 // Whole files, part by part: a pass that finds the first refusal, and a pass that writes.
-use crate::Refusal;
 use crate::making::line_of;
 use crate::read_line;
 use crate::scan::find;
 use crate::write_line;
 use record::Decoded;
+use record::Refusal;
 ghost use mathlib.Core.Path.{_≡_};
 ghost use Prim.Native.Nat.{_%_, _≤_, _<_};
 ghost use lib.ListN.{length};
 ghost use Rattle.lists.specs.Lists.{over};
 ghost use Rattle.record.specs.Record.{encoded, decoded, recordsOf};
 ghost use Rattle.text.specs.Line.{lineOf, lineRead};
-ghost use Rattle.text.specs.File.{firstRefused, lines};
-ghost use Rattle.text.specs.File.{feeds as File·feeds};
+ghost use Rattle.text.specs.File.{feeds, firstRefused, lines};
 ghost use Rattle.text.specs.Steps.{LineEnd, faultNumber, Told, partBytes, allBytes};
 
 // How many line feeds there are.
-pub fn feeds(text: &[u8]) -> usize
-    ensures { λ r. ⌜ r ≡ File·feeds (now (text .entry)) ⌝ }
+pub fn line_feeds(text: &[u8]) -> usize
+    ensures { λ r. ⌜ r ≡ feeds (now (text .entry)) ⌝ }
 {
     let mut n = 0;
     let mut i = 0;
@@ -64,7 +63,7 @@ pub fn first_formless(text: &[u8]) -> Refusal
         if number != 0 {
             return Refusal {
                 number,
-                record: line,
+                place: line,
             };
         }
         at = end;
@@ -72,7 +71,7 @@ pub fn first_formless(text: &[u8]) -> Refusal
     }
     Refusal {
         number: 0,
-        record: 0,
+        place: 0,
     }
 }
 
@@ -115,7 +114,7 @@ pub fn first_faulty(input: &[u8]) -> Refusal
         if number != 0 {
             return Refusal {
                 number,
-                record: place,
+                place: place,
             };
         }
         at = end;
@@ -123,7 +122,7 @@ pub fn first_faulty(input: &[u8]) -> Refusal
     }
     Refusal {
         number: 0,
-        record: 0,
+        place: 0,
     }
 }
 

@@ -2,14 +2,14 @@
 // Of more than 8,200 bytes the first 8,200 are taken, so such an input is refused 2.
 use libc::STDIN_FILENO;
 use libc::STDOUT_FILENO;
+use record::Refusal;
 use text::Outcome;
-use text::Refusal;
 
 fn print_refusal(refusal: Refusal) {
     io::write_all(STDOUT_FILENO, b"refused ");
     io::print_decimal(STDOUT_FILENO, refusal.number as u64);
     io::write_all(STDOUT_FILENO, b" ");
-    io::print_decimal(STDOUT_FILENO, refusal.record as u64);
+    io::print_decimal(STDOUT_FILENO, refusal.place as u64);
     io::write_all(STDOUT_FILENO, b"\n");
 }
 

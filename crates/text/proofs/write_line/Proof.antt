@@ -6,7 +6,8 @@ use mathlib.Core.List.{List, _++_}
 use lib.ListN.{length, getD, take, drop, set, length-set}
 use borrow.Author.Needs.{needs}
 use Rattle.lists.specs.Lists.{over}
-use Rattle.text.proofs.Wholes.{line-fits, line-unfit, copy-on, holds-room}
+use Rattle.lists.proofs.Places.{copy-on}
+use Rattle.text.proofs.Wholes.{line-fits, line-unfit, holds-room}
 use Rattle.text.proofs.write_line.Statement.{statement}
 use Rattle.text.proofs.write_line.Tie as tie
 
@@ -48,7 +49,7 @@ loop-again c =
     let b : List ℕ = line .result .bytes in (
       omega arith,
       length-set (at .out) (at .i) (getD b (at .i) 0) ∙ at .inv .1,
-      ap (λ o. set o (at .i) (getD b (at .i) 0)) (at .inv .2) ∙ copy-on b old (at .i) (omega (arith, holds-room (line .result) _ (line .ensures))) (omega arith),
+      ap (λ o. set o (at .i) (getD b (at .i) 0)) (at .inv .2) ∙ copy-on b old (at .i) 0 (omega (arith, holds-room (line .result) _ (line .ensures))) (omega arith),
     )
 
 same-length : tie.Need-same-length Inv-loop μ-loop

@@ -9,7 +9,8 @@ use borrow.Author.Needs.{needs}
 use Rattle.decimal.specs.Decimal.{decimal}
 use Rattle.decimal.proofs.Decimals.{size-five, written-size, written-room, written-at}
 use Rattle.text.specs.Steps.{Longer}
-use Rattle.text.proofs.Makings.{longer-none, longer-both, longer-as, word-on}
+use Rattle.lists.proofs.Places.{take-one-more}
+use Rattle.text.proofs.Makings.{longer-none, longer-both, longer-as}
 use Rattle.text.proofs.making.with_decimal.Statement.{statement}
 use Rattle.text.proofs.making.with_decimal.Tie as tie
 
@@ -53,7 +54,7 @@ loop-again c =
     let same = written-at (a .n) (d .result) (at .j) (d .ensures) l in (
       omega arith,
       at .inv .1,
-      longer-as (a .line) (r .result) (sym (word-on (decimal (a .n)) (at .j) l))
+      longer-as (a .line) (r .result) (sym (take-one-more (decimal (a .n)) (at .j) 0 l))
           (longer-both (a .line) (at .longer) (r .result) (at .inv .2) (longer-as (at .longer) (r .result) (ap (λ b. b ∷ []) same) (r .ensures))),
     )
 

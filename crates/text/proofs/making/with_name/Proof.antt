@@ -8,7 +8,8 @@ use lib.Seq.{length-take-le, take-all}
 use Rattle.text.specs.Line.{name}
 use Rattle.text.specs.Steps.{Longer}
 use Rattle.text.proofs.Scans.{name-short}
-use Rattle.text.proofs.Makings.{longer-none, longer-both, longer-as, word-on}
+use Rattle.lists.proofs.Places.{take-one-more}
+use Rattle.text.proofs.Makings.{longer-none, longer-both, longer-as}
 use Rattle.text.proofs.making.with_name.Statement.{statement}
 use Rattle.text.proofs.making.with_name.Tie as tie
 
@@ -46,7 +47,7 @@ loop-again c =
     let l : at .j < length (name (a .kind)) = omega arith in
     let r = c .with-byte in (
       omega arith,
-      longer-as (a .line) (r .result) (sym (word-on (name (a .kind)) (at .j) l))
+      longer-as (a .line) (r .result) (sym (take-one-more (name (a .kind)) (at .j) 0 l))
           (longer-both (a .line) (at .longer) (r .result) (at .inv .1) (longer-as (at .longer) (r .result) (ap (λ b. b ∷ []) (c .before .letter .ensures)) (r .ensures))),
     )
 

@@ -6,7 +6,8 @@ use lib.ListN.{length, drop}
 use lib.Seq.{length-take-le}
 use Rattle.record.specs.declared.Decoded.the-variants.{Good}
 use Rattle.text.specs.Steps.{before, numberIn}
-use Rattle.text.proofs.Readings.{rest-is, access-alone, access-first, access-second, access-good}
+use Rattle.lists.proofs.Places.{rest-whole}
+use Rattle.text.proofs.Readings.{access-alone, access-first, access-second, access-good}
 use borrow.Author.Needs.{needs}
 use Rattle.text.proofs.reading.access.Statement.{statement}
 use Rattle.text.proofs.reading.access.Tie as tie
@@ -65,7 +66,7 @@ returns-3 c =
     let a = c .before .before .before .before .before .before .before .before .before .before .args in
     let find = c .before .before .before .before .before .before .before .before .find in
     let l : find .result < length (a .fields .now) = omega arith in
-    let q : c .before .before .number2 .result ≡ numberIn 65535 (drop (find .result + 1) (a .fields .now)) = c .before .before .number2 .ensures .0 ∙ ap (numberIn 65535) (rest-is (a .fields .now) (find .result + 1)) in
+    let q : c .before .before .number2 .result ≡ numberIn 65535 (drop (find .result + 1) (a .fields .now)) = c .before .before .number2 .ensures .0 ∙ ap (numberIn 65535) (rest-whole (a .fields .now) (find .result + 1)) in
     c .formless3 .ensures
     ∙ sym (access-second (a .thread) (a .kind) (a .fields .now) (omega arith) (find .result) (find .ensures .0) l (sym q ∙ c .before .if3 .taken))
 
@@ -91,7 +92,7 @@ returns-4 c =
     let x = c .before .before .before .before .before .number in
     let v = c .before .before .number2 in
     let l : find .result < length (a .fields .now) = omega arith in
-    let q : v .result ≡ numberIn 65535 (drop (find .result + 1) (a .fields .now)) = v .ensures .0 ∙ ap (numberIn 65535) (rest-is (a .fields .now) (find .result + 1)) in
+    let q : v .result ≡ numberIn 65535 (drop (find .result + 1) (a .fields .now)) = v .ensures .0 ∙ ap (numberIn 65535) (rest-whole (a .fields .now) (find .result + 1)) in
     ap (λ o. Good (record { thread = a .thread; op = o })) (c .operation-of .ensures)
     ∙ sym (access-good (a .thread) (a .kind) (a .fields .now) (omega arith) (find .result) (find .ensures .0) l (x .result) (v .result) (x .ensures .0) (c .before .before .before .before .if2 .left) q (c .before .if3 .left))
 

@@ -5,7 +5,8 @@ use mathlib.Core.Path.{sym, ap, _∙_}
 use lib.ListN.{length}
 use lib.Seq.{length-take-le}
 use Rattle.text.specs.Line.{words, readOperation}
-use Rattle.text.proofs.Readings.{rest-is, thread-bad, thread-alone, thread-good}
+use Rattle.lists.proofs.Places.{rest-whole}
+use Rattle.text.proofs.Readings.{thread-bad, thread-alone, thread-good}
 use borrow.Author.Needs.{needs}
 use Rattle.text.proofs.reading.body.Statement.{statement}
 use Rattle.text.proofs.reading.body.Tie as tie
@@ -68,7 +69,7 @@ returns-3 c =
     let find = c .before .before .before .before .before .before .find in
     let thread = c .before .before .before .before .number in
     c .operation .ensures
-    ∙ ap (λ r. readOperation (thread .result - 1) (words r)) (rest-is (a .bytes .now) (find .result + 1))
+    ∙ ap (λ r. readOperation (thread .result - 1) (words r)) (rest-whole (a .bytes .now) (find .result + 1))
     ∙ sym (thread-good (a .bytes .now) (find .result) (find .ensures .0) (thread .result) (thread .ensures .0) (c .before .before .before .if1 .left) (omega arith))
 
 pub body-spec : {M : Type 1} → statement M

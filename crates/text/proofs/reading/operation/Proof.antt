@@ -5,7 +5,8 @@ use mathlib.Core.Path.{sym, ap, _∙_}
 use lib.ListN.{length}
 use lib.Seq.{length-take-le}
 use Rattle.text.specs.Line.{words, readFields}
-use Rattle.text.proofs.Readings.{rest-is, operation-unnamed, operation-yield, operation-short, operation-more, operation-long}
+use Rattle.lists.proofs.Places.{rest-whole}
+use Rattle.text.proofs.Readings.{operation-unnamed, operation-yield, operation-short, operation-more, operation-long}
 use borrow.Author.Needs.{needs}
 use Rattle.text.proofs.reading.operation.Statement.{statement}
 use Rattle.text.proofs.reading.operation.Tie as tie
@@ -68,7 +69,7 @@ returns-4 c =
     let find = c .before .before .before .before .before .before .before .find in
     let kind = c .before .before .before .before .before .kind-named in
     c .access .ensures
-    ∙ ap (λ r. readFields (a .thread) (kind .result) (words r)) (rest-is (a .bytes .now) (find .result + 1))
+    ∙ ap (λ r. readFields (a .thread) (kind .result) (words r)) (rest-whole (a .bytes .now) (find .result + 1))
     ∙ sym (operation-more (a .thread) (a .bytes .now) (find .result) (find .ensures .0) (kind .result) (kind .ensures) (c .before .before .before .before .if1 .left) (omega arith))
 
 add-single : tie.Need-add-single
@@ -92,7 +93,7 @@ returns-5 c =
     let find = c .before .before .before .before .before .before .before .before .find in
     let kind = c .before .before .before .before .before .before .kind-named in
     c .single .ensures
-    ∙ ap (λ r. readFields (a .thread) (kind .result) (words r)) (rest-is (a .bytes .now) (find .result + 1))
+    ∙ ap (λ r. readFields (a .thread) (kind .result) (words r)) (rest-whole (a .bytes .now) (find .result + 1))
     ∙ sym (operation-more (a .thread) (a .bytes .now) (find .result) (find .ensures .0) (kind .result) (kind .ensures) (c .before .before .before .before .before .if1 .left) (omega arith))
 
 formless-requires-3 : tie.Need-formless-requires-3

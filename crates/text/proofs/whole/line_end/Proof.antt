@@ -3,7 +3,7 @@ use Prim.Native.Nat.{_-_}
 use native.Mathlib.Omega.{arith}
 use mathlib.Core.Path.{ap, _∙_}
 use Rattle.text.specs.Steps.{before}
-use Rattle.text.proofs.Readings.{rest-is}
+use Rattle.lists.proofs.Places.{rest-whole}
 use Rattle.text.proofs.Wholes.{end-feed, end-text}
 use borrow.Author.Needs.{needs}
 use Rattle.text.proofs.whole.line_end.Statement.{statement}
@@ -34,13 +34,13 @@ returns : tie.Need-returns
 returns c =
     let a = c .before .before .before .before .args in
     let n = c .before .find in
-    end-feed (a .text .now) (a .at) (n .result) (omega arith) (n .ensures .0 ∙ ap (before 10) (rest-is (a .text .now) (a .at))) (omega arith)
+    end-feed (a .text .now) (a .at) (n .result) (omega arith) (n .ensures .0 ∙ ap (before 10) (rest-whole (a .text .now) (a .at))) (omega arith)
 
 returns-2 : tie.Need-returns-2
 returns-2 c =
     let a = c .before .before .before .before .args in
     let n = c .before .find in
-    end-text (a .text .now) (a .at) (n .result) (omega arith) (n .ensures .0 ∙ ap (before 10) (rest-is (a .text .now) (a .at))) (omega arith)
+    end-text (a .text .now) (a .at) (n .result) (omega arith) (n .ensures .0 ∙ ap (before 10) (rest-whole (a .text .now) (a .at))) (omega arith)
 
 pub line-end-spec : {M : Type 1} → statement M
 line-end-spec =

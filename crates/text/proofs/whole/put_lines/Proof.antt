@@ -8,9 +8,9 @@ use borrow.Author.Needs.{needs}
 use Rattle.record.specs.Record.{decoded, recordsOf}
 use Rattle.text.specs.Line.{lineOf}
 use Rattle.text.specs.Steps.{partBytes, allBytes}
-use Rattle.text.proofs.Readings.{rest-is}
 use borrow.Rule.Slice.PartMut.{putMid}
-use Rattle.text.proofs.Wholes.{records-at, records-end, bytes-on, bytes-end, Put, put-none, put-all, put-on, put-over}
+use Rattle.lists.proofs.Places.{rest-whole, put-over}
+use Rattle.text.proofs.Wholes.{records-at, records-end, bytes-on, bytes-end, Put, put-none, put-all, put-on}
 use Rattle.text.proofs.whole.put_lines.Statement.{statement}
 use Rattle.text.proofs.whole.put_lines.Tie as tie
 
@@ -55,7 +55,7 @@ put-line-requires c κs =
     let more = bytes-on lineOf decoded one (recordsOf (drop (at .at + 8) input)) (recordsOf (drop (at .at) input)) (records-at input (at .at) fits) in
     let b : List ℕ = partBytes lineOf (decoded one) in
     let room = c .before .before .before .before .before .before .pre .1 in
-    omega (arith, at .inv .2 .sizes, at .inv .2 .same-size, room, ap length more, length-append b rest′, length-drop (at .n) (at .out), ap length (rest-is (at .out) (at .n)))
+    omega (arith, at .inv .2 .sizes, at .inv .2 .same-size, room, ap length more, length-append b rest′, length-drop (at .n) (at .out), ap length (rest-whole (at .out) (at .n)))
 
 add-n : tie.Need-add-n Inv-loop μ-loop
 add-n c =

@@ -10,8 +10,8 @@ use Rattle.record.specs.Record.{encoded}
 use Rattle.text.specs.Line.{lineRead}
 use Rattle.text.specs.File.{lines}
 use Rattle.text.specs.Steps.{partBytes, allBytes}
-use Rattle.text.proofs.Readings.{rest-is}
-use Rattle.text.proofs.Wholes.{lines-at, lines-end, bytes-on, bytes-end, Put, put-none, put-all, put-on, put-over}
+use Rattle.lists.proofs.Places.{rest-whole, put-over}
+use Rattle.text.proofs.Wholes.{lines-at, lines-end, bytes-on, bytes-end, Put, put-none, put-all, put-on}
 use Rattle.text.proofs.whole.put_records.Statement.{statement}
 use Rattle.text.proofs.whole.put_records.Tie as tie
 
@@ -54,7 +54,7 @@ put-record-requires c κs =
     let line : List ℕ = take (end .result - at .at) (drop (at .at) text) in
     let more = bytes-on encoded lineRead line (lines (drop (end .result) text)) (lines (drop (at .at) text)) (lines-at text (at .at) (end .result) (end .ensures)) in
     let rest : List ℕ = allBytes encoded lineRead (lines (drop (end .result) text)) in
-    omega (arith, at .inv .1 .sizes, at .inv .1 .same-size, c .before .before .before .before .before .before .before .pre, ap length more, length-append (partBytes encoded (lineRead line)) rest, length-drop (at .n) (at .out), ap length (rest-is (at .out) (at .n)))
+    omega (arith, at .inv .1 .sizes, at .inv .1 .same-size, c .before .before .before .before .before .before .before .pre, ap length more, length-append (partBytes encoded (lineRead line)) rest, length-drop (at .n) (at .out), ap length (rest-whole (at .out) (at .n)))
 
 add-n : tie.Need-add-n Inv-loop μ-loop
 add-n c =

@@ -1,4 +1,4 @@
--- `text::feeds` meets its contract: n line feeds stand before i.
+-- `text::line_feeds` meets its contract: n line feeds stand before i.
 use Prim.Native.Nat.{ℕ, _+_, _-_, _≤_}
 use native.Mathlib.Omega.{arith}
 use mathlib.Core.Path.{_≡_}
@@ -7,8 +7,8 @@ use mathlib.Core.List.{List}
 use lib.ListN.{length, drop}
 use Rattle.text.specs.File.{feeds}
 use Rattle.text.proofs.Wholes.{feeds-here, feeds-other, feeds-end}
-use Rattle.text.proofs.whole.feeds.Statement.{statement}
-use Rattle.text.proofs.whole.feeds.Tie as tie
+use Rattle.text.proofs.whole.line_feeds.Statement.{statement}
+use Rattle.text.proofs.whole.line_feeds.Tie as tie
 
 abbrev Inv-loop : tie.InvT-loop
 Inv-loop text n₀ i₀ n i = (i ≤ length text) × (n ≤ i) × (feeds text ≡ n + feeds (drop i text))
@@ -43,8 +43,8 @@ loop-again c =
 returns : tie.Need-returns Inv-loop μ-loop
 returns c = omega (arith, feeds-end (c .before .before .args .text .now) (c .before .loop .i) (omega arith))
 
-pub feeds-spec : {M : Type 1} → statement M
-feeds-spec =
+pub line-feeds-spec : {M : Type 1} → statement M
+line-feeds-spec =
     tie.close
     (tie.spec
     Inv-loop

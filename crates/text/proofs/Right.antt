@@ -1,10 +1,10 @@
 -- What document 02, L4, demands of the written form holds.
-use Rattle.text.specs.Demands.{WrittenForm}
+use Rattle.text.specs.Meaning.{Right}
 use Rattle.text.proofs.Lines as Lines
 use Rattle.text.proofs.Files as Files
 
-pub written-form : WrittenForm
-written-form =
+pub right : Right
+right =
     record {
       one-line = Lines.one-line;
       read-written = Lines.read-written;

@@ -1,4 +1,4 @@
--- What document 02, L4, demands of the written form, as one statement. Its proof is `written-form` in proofs/Demands.
+-- What document 02, L4, demands of the written form, as one statement. Its proof is `right` in proofs/Right.
 use Prim.Native.Nat.{ℕ, _≤_}
 use mathlib.Core.Path.{_≡_}
 use mathlib.Core.List.{List}
@@ -23,7 +23,7 @@ pub record OneLine (e : Event) : Type 0 where
   pub reads : lineRead line ≡ Good e
   pub only : (l : List ℕ) → lineRead l ≡ Good e → l ≡ line
 
-pub record WrittenForm : Type 0 where
+pub record Right : Type 0 where
   -- every possible record has exactly one line
   pub one-line : (e : Event) → T (inRange e) → OneLine e
   -- reading a written line gives the record back
