@@ -11,11 +11,10 @@ use lib.Seq.{append-snoc}
 use Rattle.lists.specs.Lists.{someOf}
 use Rattle.trace.specs.Paths.{Edge, Path, reaches, cyclic}
 use Rattle.lists.proofs.Tests.{by, by-same, T-of, or-cases, or-left, or-right, and-left, and-right, same-test, or-false-both, not-false, or-and-self}
-use Rattle.lists.proofs.Lists.{Among, some-cons, some-same, some-has, some-at, Holds}
+use Rattle.lists.proofs.Lists.{Among, some-cons, some-snoc, some-same, some-has, some-at, Holds}
 use Rattle.trace.proofs.Reach.{sound, complete, path-joined, edge-back}
 use Rattle.rows.specs.Bits.{has, joined}
 use Rattle.rows.proofs.Laws.{joined-row, joined-other, length-joined, rest-joined}
-use Rattle.graph.proofs.Ends.{some-append}
 use Rattle.graph.proofs.Steps.{among-none, among-split}
 use Rattle.ancestors.specs.Ancestors.{Stands}
 use Rattle.ancestors.specs.Sources.{gathered, meeting, someNew, spreadTo, closedRows}
@@ -27,10 +26,6 @@ record Gathering (m : ℕ) (before : List ℕ) (t : ℕ) (bs : List ℕ) (after 
   small : (b : ℕ) → Among b bs → b < m
   row : (a : ℕ) → a < 512 → has after t a ≡ (has before t a || someOf (λ b. has before b a) bs)
   others : (a d : ℕ) → a < 512 → (d ≡ t → ⊥) → has after d a ≡ has before d a
-
-some-snoc : (p : ℕ → Bool) (bs : List ℕ) (b : ℕ) → someOf p (bs ++ (b ∷ [])) ≡ (someOf p bs || p b)
-unfolding someOf
-some-snoc p bs b = some-append p bs (b ∷ []) ∙ ap (λ c. someOf p bs || c) (some-cons p b [] ∙ or-false (p b))
 
 -- a third test that passes only where one of two does
 absorbed : (p q r : Bool) → (T r → T (p || q)) → (p || q) ≡ (p || (q || r))

@@ -9,18 +9,14 @@ use borrow.Author.Tests.{eq-eqb, ne-eqb, lt-ltb, le-ltb}
 use lib.Dec.{T, eqb, ltb}
 use Rattle.lists.specs.Lists.{someOf, keep}
 use Rattle.lists.proofs.Tests.{by, T-of, or-left, or-right}
-use Rattle.lists.proofs.Lists.{keep-true, keep-false, some-cons}
+use Rattle.lists.proofs.Lists.{keep-true, keep-false, some-cons, some-append}
+use Rattle.lists.proofs.Places.{less-one}
 use Rattle.rows.specs.Bits.{has, joined}
 use Rattle.graph.specs.Transactions.{transactionLimit}
-use Rattle.graph.proofs.Ends.{some-append}
 use Rattle.ancestors.specs.Sources.{isOther, others, leads, gathered, meeting, someNew, spreadTo, closedRows, begunWith, codeOf, more, Joins}
 use Rattle.ancestors.proofs.Gathering.{none-new}
 
 -- ---- what is held
-
-pub pred-is : (c : ℕ) → c - 1 ≡ pred c
-pred-is zero = refl
-pred-is (suc c) = let e : suc c - 1 ≡ c = omega arith in e
 
 -- another transaction than a isn't held as 0
 pub other-some : (a c : ℕ) → isOther a c ≡ true → 1 ≤ c
@@ -56,7 +52,7 @@ some-other p a (c ∷ cs) = by (isOther a c)
     ∙ ap (λ b. (b && p (pred c)) || someOf (λ d. isOther a d && p (pred d)) cs) (sym e) ∙ sym (some-cons (λ d. isOther a d && p (pred d)) c cs))
 
 pub leads-in : (work : List ℕ) (a c : ℕ) (r : Bool) → isOther a c ≡ true → r ≡ has work (c - 1) a → r ≡ leads work a c
-leads-in work a c r e h = h ∙ ap (λ b. has work b a) (pred-is c) ∙ sym (ap (λ b. b && has work (pred c) a) e)
+leads-in work a c r e h = h ∙ ap (λ b. has work b a) (less-one c) ∙ sym (ap (λ b. b && has work (pred c) a) e)
 
 pub leads-out : (work : List ℕ) (a c : ℕ) → isOther a c ≡ false → false ≡ leads work a c
 leads-out work a c e = sym (ap (λ b. b && has work (pred c) a) e)
@@ -138,7 +134,7 @@ joins-new w v a b r e h is = record { code = h ∙ sym (one-code w a b false e);
 
 -- one that is held
 pub joins-held : (w v : List ℕ) (a c r : ℕ) → isOther a c ≡ true → Joins w a ((c - 1) ∷ []) r v → Joins w a (others a (c ∷ [])) r v
-joins-held w v a c r e f = subst (λ l. Joins w a l r v) (ap (λ b. b ∷ []) (pred-is c) ∙ sym (others-true a c [] e ∙ ap (λ l. pred c ∷ l) (others-none a))) f
+joins-held w v a c r e f = subst (λ l. Joins w a l r v) (ap (λ b. b ∷ []) (less-one c) ∙ sym (others-true a c [] e ∙ ap (λ l. pred c ∷ l) (others-none a))) f
 
 pub joins-own : (w : List ℕ) (a c : ℕ) → isOther a c ≡ false → Joins w a (others a (c ∷ [])) 0 w
 joins-own w a c e = subst (λ l. Joins w a l 0 w) (sym (others-false a c [] e ∙ others-none a)) (joins-none w a)

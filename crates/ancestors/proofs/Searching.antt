@@ -11,16 +11,17 @@ use lib.Seq.{append-snoc, take-at, getD-at}
 use Rattle.record.specs.declared.Event.{Event}
 use Rattle.lists.specs.Lists.{firstOf, from}
 use Rattle.lists.proofs.Tests.{by, by-same}
-use Rattle.lists.proofs.Lists.{Among, first-default, first-is, first-same, from-le, from-bound, map-at}
+use Rattle.lists.proofs.Lists.{Among, among-second, first-default, first-is, first-same, from-le, from-bound, map-at}
 use Rattle.trace.specs.Paths.{reaches, cyclic}
 use Rattle.rows.specs.Bits.{has}
 use Rattle.graph.specs.Transactions.{Tally, none-yet, begins, belongs, tallied, Labelled, labelledFrom, labelled, tallyFrom, transactions, transactionLimit, workSize}
 use Rattle.graph.specs.Edges.{edges}
 use Rattle.graph.specs.Violation.{edgesUpTo, cyclicUpTo, shortest, transactionAt}
-use Rattle.graph.proofs.Alike.{shownOf, shown-alike, transactions-alike, edges-alike, edges-up-to, shortest-alike, transaction-alike}
+use Rattle.graph.specs.Held.{shownOf, recordAt, held}
+use Rattle.graph.proofs.Alike.{shown-alike, transactions-alike, edges-alike, edges-up-to, shortest-alike, transaction-alike}
+use Rattle.graph.proofs.Held.{held-from, held-end}
 use Rattle.graph.proofs.Numbers.{Sane, sane-none, sane-tallied, belongs-first, belongs-lt, count-begun, count-unbegun, tally-rises, labels-lt, labelled-take}
 use Rattle.graph.proofs.Round.{labelled-length}
-use Rattle.graph.proofs.Steps.{among-first, among-end}
 use Rattle.ancestors.specs.Ancestors.{Stands, Found}
 use Rattle.ancestors.specs.Sources.{meeting, closedRows, looked, begunWith}
 use Rattle.ancestors.specs.Search.{Searched, closesCycle, rowsWith, keptWith, keptFrom, searchedFrom, searched}
@@ -56,7 +57,8 @@ module _ {S : Type 0} (next : S → Labelled → S) (s : S) (x : Labelled) where
   unfolding keptWith
   kept-over h = ap (λ b. cond b (next s x) s) (le-ltb (x .transaction) transactionLimit h)
 
-kept-snoc : {S : Type 0} (next : S → Labelled → S) (s : S) (xs : List Labelled) (x : Labelled) → keptFrom next s (xs ++ (x ∷ [])) ≡ next (keptFrom next s xs) x
+-- after records and one more
+pub kept-snoc : {S : Type 0} (next : S → Labelled → S) (s : S) (xs : List Labelled) (x : Labelled) → keptFrom next s (xs ++ (x ∷ [])) ≡ next (keptFrom next s xs) x
 unfolding keptFrom
 kept-snoc next s [] x = refl
 kept-snoc next s (y ∷ xs) x = kept-snoc next (next s y) xs x
@@ -81,6 +83,25 @@ module _ {S : Type 0} (sources : S → Labelled → List ℕ) (next : S → Labe
         ≡ searchedFrom sources next (suc k) (begunWith (x .transaction) n) (keptWith next s x) (rowsWith sources s work (looked (x .transaction) n) x) xs
     unfolding searchedFrom
     searched-more e = rw (e, searchedFrom)
+
+-- the same over the records that arrays hold, of which i are behind the search
+module _ {S : Type 0} (sources : S → Labelled → List ℕ) (next : S → Labelled → S) (count : ℕ) (all : List Event) (labels : List ℕ) (i n : ℕ) (s : S) (work : List ℕ) where
+  abbrev x : Labelled
+  x = recordAt all labels i
+
+  pub search-ends : count ≤ i → searchedFrom sources next i n s work (drop i (held count all labels)) ≡ record { prefix = 0; rows = work }
+  search-ends h = ap (searchedFrom sources next i n s work) (held-end count i all labels h) ∙ searched-none sources next i n s work
+
+  module _ (h : i < count) where
+    pub search-hits : closesCycle sources s work (recordAt all labels i) ≡ true
+        → searchedFrom sources next i n s work (drop i (held count all labels)) ≡ record { prefix = suc i; rows = rowsWith sources s work (looked (getD labels i 0) n) (recordAt all labels i) }
+    search-hits e = ap (searchedFrom sources next i n s work) (held-from count i all labels h) ∙ searched-hit sources next i n s work x (drop (suc i) (held count all labels)) e
+
+    pub search-goes-on : closesCycle sources s work (recordAt all labels i) ≡ false
+        → searchedFrom sources next i n s work (drop i (held count all labels))
+        ≡ searchedFrom sources next (suc i) (begunWith (getD labels i 0) n) (keptWith next s (recordAt all labels i))
+        (rowsWith sources s work (looked (getD labels i 0) n) (recordAt all labels i)) (drop (suc i) (held count all labels))
+    search-goes-on e = ap (searchedFrom sources next i n s work) (held-from count i all labels h) ∙ searched-more sources next i n s work x (drop (suc i) (held count all labels)) e
 
 -- ---- the transactions are numbered as they begin
 
@@ -233,7 +254,7 @@ module _ {S : Type 0} (sources : S → Labelled → List ℕ) (next : S → Labe
       split = append-snoc done x rest
 
       in-x : x .transaction < m
-      in-x = small x (subst (λ l. Among x l) split (among-first (done ++ (x ∷ [])) rest (among-end done x)))
+      in-x = small x (among-second done (x ∷ rest) Among.top)
 
       in-512 : x .transaction < transactionLimit
       in-512 = omega (arith, in-x, at .holds .square)
