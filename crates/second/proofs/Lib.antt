@@ -5,4 +5,6 @@ pub mod Meet
 pub mod Cover
 pub mod Agree
 pub mod ByKind
+pub mod Holding
+pub mod Right
 pub mod Examples
