@@ -14,8 +14,9 @@ use Rattle.trace.proofs.Reach.{Over, sound, complete, path-joined, cycle-means,
 use Rattle.graph.specs.Transactions.{Labelled}
 use Rattle.graph.specs.Edges.{edges}
 use Rattle.graph.proofs.Ends.{has-pair}
+use Rattle.ancestors.specs.Search.{keptFrom}
 use Rattle.second.specs.Cells.{Cells}
-use Rattle.second.specs.Edges.{into, sourcesOf, storedOf, secondFrom, cellsFrom, secondEdges}
+use Rattle.second.specs.Edges.{into, sourcesOf, storedOf, secondFrom, secondEdges}
 use Rattle.second.proofs.Orderly.{Orderly}
 use Rattle.second.proofs.Meet.{eq-T}
 use Rattle.second.proofs.Cover.{into-has, has-into, has-append, second-cons, second-edge, edge-second}
@@ -86,12 +87,12 @@ into-is t bs a b = same-test (hasEdge (into t bs) a b) (eqb t b && someOf (λ c.
     (subst (λ z. T (hasEdge (into t bs) (f .x) z)) (eqb→eq t b (and-left (eqb t b) (someOf (λ c. eqb c a && true) bs) u)) (into-has t bs (f .x) (f .in-l))))
 
 snoc-from : (s : Cells) (xs : List Labelled) (x : Labelled) (a b : ℕ)
-    → hasEdge (secondFrom s (xs ++ (x ∷ []))) a b ≡ (hasEdge (secondFrom s xs) a b || hasEdge (into (x .transaction) (sourcesOf (cellsFrom s xs) x)) a b)
-unfolding secondFrom cellsFrom
+    → hasEdge (secondFrom s (xs ++ (x ∷ []))) a b ≡ (hasEdge (secondFrom s xs) a b || hasEdge (into (x .transaction) (sourcesOf (keptFrom storedOf s xs) x)) a b)
+unfolding secondFrom keptFrom
 snoc-from s [] x a b = has-append (into (x .transaction) (sourcesOf s x)) [] a b ∙ or-comm (hasEdge (into (x .transaction) (sourcesOf s x)) a b) (hasEdge [] a b)
 snoc-from s (y ∷ xs) x a b =
     let own : Bool = hasEdge (into (y .transaction) (sourcesOf s y)) a b in
-    let last : Bool = hasEdge (into (x .transaction) (sourcesOf (cellsFrom (storedOf s y) xs) x)) a b in
+    let last : Bool = hasEdge (into (x .transaction) (sourcesOf (keptFrom storedOf (storedOf s y) xs) x)) a b in
     second-cons s y (xs ++ (x ∷ [])) a b
     ∙ ap (λ c. own || c) (snoc-from (storedOf s y) xs x a b)
     ∙ sym (or-assoc own (hasEdge (secondFrom (storedOf s y) xs) a b) last)
@@ -100,10 +101,5 @@ snoc-from s (y ∷ xs) x a b =
 -- the engine's edges with one record more: one to its transaction from each of its sources
 pub second-snoc : (s : Cells) (xs : List Labelled) (x : Labelled) (a b : ℕ)
     → hasEdge (secondFrom s (xs ++ (x ∷ []))) a b
-    ≡ (hasEdge (secondFrom s xs) a b || (eqb (x .transaction) b && someOf (λ c. eqb c a && true) (sourcesOf (cellsFrom s xs) x)))
-second-snoc s xs x a b = snoc-from s xs x a b ∙ ap (λ c. hasEdge (secondFrom s xs) a b || c) (into-is (x .transaction) (sourcesOf (cellsFrom s xs) x) a b)
-
-pub cells-snoc : (s : Cells) (xs : List Labelled) (x : Labelled) → cellsFrom s (xs ++ (x ∷ [])) ≡ storedOf (cellsFrom s xs) x
-unfolding cellsFrom
-cells-snoc s [] x = refl
-cells-snoc s (y ∷ xs) x = cells-snoc (storedOf s y) xs x
+    ≡ (hasEdge (secondFrom s xs) a b || (eqb (x .transaction) b && someOf (λ c. eqb c a && true) (sourcesOf (keptFrom storedOf s xs) x)))
+second-snoc s xs x a b = snoc-from s xs x a b ∙ ap (λ c. hasEdge (secondFrom s xs) a b || c) (into-is (x .transaction) (sourcesOf (keptFrom storedOf s xs) x) a b)

@@ -4,9 +4,8 @@ use native.Mathlib.Omega.{arith}
 use native.Mathlib.Numerals.{add-one}
 use mathlib.Core.Path.{_≡_, refl, sym, ap, ap₂, _∙_, subst}
 use mathlib.Core.Logic.{_≢_}
-use mathlib.Core.Bool.{Bool, true, false, not, cond, _&&_, _||_, or-false}
+use mathlib.Core.Bool.{Bool, true, false, not, cond, _||_, or-false}
 use mathlib.Core.List.{List, [], _∷_, _++_, map}
-use borrow.Author.Tests.{lt-ltb, le-ltb}
 use lib.Dec.{eqb}
 use lib.ListN.{getD, set}
 use lib.Seq.{set-comm}
@@ -18,13 +17,15 @@ use Rattle.lists.specs.Lists.{someOf, from, below}
 use Rattle.lists.proofs.Tests.{by-same}
 use Rattle.lists.proofs.Lists.{Among, some-cons, among-map, map-append, map-map, below-has, below-more}
 use Rattle.rows.specs.Bits.{has}
-use Rattle.graph.specs.Held.{shown}
-use Rattle.graph.specs.Transactions.{transactionLimit}
+use Rattle.graph.specs.Held.{shown, labelledAs}
 use Rattle.graph.proofs.Ends.{some-append}
-use Rattle.ancestors.specs.Sources.{isOther, others, leads, meeting, spreadTo, closedRows, more, Joins}
+use Rattle.ancestors.specs.Sources.{isOther, others, leads, spreadTo, more, Joins}
+use Rattle.ancestors.specs.Search.{closesCycle}
 use Rattle.ancestors.proofs.Joining.{others-none, others-append, some-other, joins-none, joins-then, joins-more, joins-held, joins-own, joins-meeting, joins-closed}
+use Rattle.ancestors.proofs.Searching.{closes-under, closes-over, rows-under, rows-over, kept-under, kept-over}
 use Rattle.second.specs.Cells.{Cells, cellsOf, Key, cell, put, putAll, asked, asks, left, readersOf, sources, stored}
-use Rattle.second.specs.Taken.{closing, takenAs, taken, closingNew, readersIn}
+use Rattle.second.specs.Edges.{sourcesOf, storedOf}
+use Rattle.second.specs.Taken.{closing, takenAs, taken, readersIn}
 
 -- ---- the cells by kind and target
 
@@ -226,20 +227,18 @@ readers-are s x = map-map (cell s) (Key.Reader x) (below 16)
 -- there is no row for its transaction
 pub taken-over : (s : Cells) (work : List ℕ) (n a : ℕ) (e : Event) → 512 ≤ a → takenAs s work ≡ taken s work n a e
 unfolding taken
-taken-over s work n a e h = sym (ap (λ b. cond b (takenAs (stored s a e) (closedRows work n a (sources s a e))) (takenAs s work)) (le-ltb a transactionLimit h))
+taken-over s work n a e h = sym (ap₂ takenAs (kept-over storedOf s (labelledAs a e) h) (rows-over sourcesOf s work n (labelledAs a e) h))
 
-pub closing-over : (s : Cells) (work : List ℕ) (a : ℕ) (e : Event) → 512 ≤ a → false ≡ closingNew s work a e
-unfolding closingNew
-closing-over s work a e h = sym (ap (λ b. b && meeting work a (sources s a e)) (le-ltb a transactionLimit h))
+pub closing-over : (s : Cells) (work : List ℕ) (a : ℕ) (e : Event) → 512 ≤ a → false ≡ closesCycle sourcesOf s work (labelledAs a e)
+closing-over s work a e h = sym (closes-over sourcesOf s work 0 (labelledAs a e) h)
 
 -- there is one, and all sources have come in
 module _ (s : Cells) (work : List ℕ) (n a : ℕ) (e : Event) (v : List ℕ) (r : ℕ) (h : a < 512) (j : Joins work a (sources s a e) r v) where
-  pub closing-under : eqb r 2 ≡ closingNew s work a e
-  unfolding closingNew
-  closing-under = joins-meeting work a (sources s a e) r v j ∙ sym (ap (λ b. b && meeting work a (sources s a e)) (lt-ltb a transactionLimit h))
+  pub closing-under : eqb r 2 ≡ closesCycle sourcesOf s work (labelledAs a e)
+  closing-under = joins-meeting work a (sources s a e) r v j ∙ sym (closes-under sourcesOf s work n (labelledAs a e) h)
 
   pub taken-under : (out : Cells) (w : List ℕ) → out ≡ stored s a e → w ≡ cond (not (eqb r 0)) (spreadTo n v a) v → takenAs out w ≡ taken s work n a e
   unfolding taken
   taken-under out w is k =
-      ap₂ takenAs is (joins-closed work a (sources s a e) r v j n w k)
-      ∙ sym (ap (λ b. cond b (takenAs (stored s a e) (closedRows work n a (sources s a e))) (takenAs s work)) (lt-ltb a transactionLimit h))
+      ap₂ takenAs (is ∙ sym (kept-under storedOf s (labelledAs a e) h))
+      (joins-closed work a (sources s a e) r v j n w k ∙ sym (rows-under sourcesOf s work n (labelledAs a e) h))

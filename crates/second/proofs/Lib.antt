@@ -4,7 +4,9 @@ pub mod Keys
 pub mod Meet
 pub mod Cover
 pub mod Agree
-pub mod ByKind
+pub mod Sources
 pub mod Holding
+pub mod ByKind
+pub mod Seeking
 pub mod Right
 pub mod Examples

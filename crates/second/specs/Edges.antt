@@ -20,18 +20,10 @@ unfoldable pub secondFrom : Cells → List Labelled → List Edge
 secondFrom s [] = []
 secondFrom s (x ∷ xs) = into (x .transaction) (sourcesOf s x) ++ secondFrom (storedOf s x) xs
 
--- the state after them
-unfoldable pub cellsFrom : Cells → List Labelled → Cells
-cellsFrom s [] = s
-cellsFrom s (x ∷ xs) = cellsFrom (storedOf s x) xs
-
 abbrev pub secondEdges : List Labelled → List Edge
 secondEdges xs = secondFrom idle xs
 
-abbrev pub cellsAfter : List Labelled → Cells
-cellsAfter xs = cellsFrom idle xs
-
 -- Everything above, opened at once, for a proof by computation: `unfolding opened`
 unfoldable pub opened : Unit {0}
-unfolding secondFrom cellsFrom
+unfolding secondFrom
 opened = tt

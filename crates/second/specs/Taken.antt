@@ -1,16 +1,17 @@
 -- What crates promise one another about the second engine: whether an operation closes a cycle, and the cells and rows with it taken in.
 -- A reader of the public promises need not read this.
 use Prim.Native.Nat.{ℕ, _+_, _*_}
-use mathlib.Core.Bool.{Bool, cond, _&&_}
+use mathlib.Core.Bool.{Bool}
 use mathlib.Core.List.{List, map}
-use lib.Dec.{ltb}
 use lib.ListN.{getD}
 use Rattle.record.specs.declared.Event.{Event}
 use Rattle.lists.specs.Lists.{someOf, below}
 use Rattle.rows.specs.Bits.{has}
-use Rattle.graph.specs.Transactions.{transactionLimit}
-use Rattle.ancestors.specs.Sources.{meeting, closedRows}
-use Rattle.second.specs.Cells.{Cells, sources, stored}
+use Rattle.graph.specs.Held.{labelledAs}
+use Rattle.graph.specs.Transactions.{Labelled}
+use Rattle.ancestors.specs.Search.{Searched, rowsWith, keptWith, searched}
+use Rattle.second.specs.Cells.{Cells, idle, sources}
+use Rattle.second.specs.Edges.{sourcesOf, storedOf}
 
 -- Whether an operation of transaction a closes a cycle: a reaches one of its sources, by the rows
 unfoldable pub closing : Cells → List ℕ → ℕ → Event → Bool
@@ -24,14 +25,16 @@ pub record Taken : Type 0 where
 abbrev pub takenAs : Cells → List ℕ → Taken
 takenAs s work = record { cells = s; rows = work }
 
--- An operation of transaction a taken in, with n rows to look at. There are rows for 512 transactions: of any other nothing changes
+-- An operation of transaction a taken in, with n rows to look at
 unfoldable pub taken : Cells → List ℕ → ℕ → ℕ → Event → Taken
-taken s work n a e = cond (ltb a transactionLimit) (takenAs (stored s a e) (closedRows work n a (sources s a e))) (takenAs s work)
+taken s work n a e = takenAs (keptWith storedOf s (labelledAs a e)) (rowsWith sourcesOf s work n (labelledAs a e))
 
--- Whether an operation that is taken in closes a cycle, by the sources that are new to its row. Where the rows stand for edges without a cycle this is
--- `closing` (`closing-same` in proofs/Holding)
-unfoldable pub closingNew : Cells → List ℕ → ℕ → Event → Bool
-closingNew s work a e = ltb a transactionLimit && meeting work a (sources s a e)
+-- What its search answers and leaves, and the search over labelled operations, from rows that are lent
+abbrev pub searchedAs : ℕ → List ℕ → Searched
+searchedAs prefix rows = record { prefix = prefix; rows = rows }
+
+abbrev pub secondSearched : List ℕ → List Labelled → Searched
+secondSearched work xs = searched sourcesOf storedOf idle work xs
 
 -- what the last readers of variable x hold, in the first n threads
 abbrev pub readersIn : List ℕ → ℕ → ℕ → List ℕ
