@@ -15,10 +15,9 @@ use Rattle.record.proofs.Laws.{operation-low, operation-high}
 use Rattle.replay.proofs.Laws.{each-lock}
 use Rattle.lists.specs.Lists.{someOf, from, below}
 use Rattle.lists.proofs.Tests.{by-same}
-use Rattle.lists.proofs.Lists.{Among, some-cons, among-map, map-append, map-map, below-has, below-more}
+use Rattle.lists.proofs.Lists.{Among, some-cons, some-append, among-map, map-append, map-map, below-has, below-more}
 use Rattle.rows.specs.Bits.{has}
 use Rattle.graph.specs.Held.{shown, labelledAs}
-use Rattle.graph.proofs.Ends.{some-append}
 use Rattle.ancestors.specs.Sources.{isOther, others, leads, spreadTo, more, Joins}
 use Rattle.ancestors.specs.Search.{closesCycle}
 use Rattle.ancestors.proofs.Joining.{others-none, others-append, some-other, joins-none, joins-then, joins-more, joins-held, joins-own, joins-meeting, joins-closed}

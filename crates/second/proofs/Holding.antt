@@ -11,9 +11,8 @@ use mathlib.Core.Bool.{false}
 use mathlib.Core.List.{List, [], _∷_, _++_}
 use lib.Dec.{T}
 use lib.ListN.{length}
-use Rattle.lists.specs.Lists.{someOf}
 use Rattle.trace.specs.Paths.{reaches, cyclic}
-use Rattle.rows.specs.Bits.{has, begun}
+use Rattle.rows.specs.Bits.{begun}
 use Rattle.graph.specs.Transactions.{Labelled}
 use Rattle.graph.specs.Edges.{edges}
 use Rattle.ancestors.specs.Sources.{closedRows}
@@ -22,7 +21,7 @@ use Rattle.ancestors.proofs.Standing.{Kept}
 use Rattle.ancestors.proofs.Right.{RightSources, RowsHold, begun-hold, rows-kept, rows-hold}
 use Rattle.ancestors.proofs.Right as Rows
 use Rattle.ancestors.proofs.Searching.{kept-under, rows-under, kept-snoc}
-use Rattle.second.specs.Cells.{Cells, idle, sources}
+use Rattle.second.specs.Cells.{Cells, idle}
 use Rattle.second.specs.Edges.{sourcesOf, storedOf}
 use Rattle.second.specs.Taken.{closing, taken}
 use Rattle.second.proofs.Orderly.{Orderly}

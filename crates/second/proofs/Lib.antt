@@ -8,5 +8,6 @@ pub mod Sources
 pub mod Holding
 pub mod ByKind
 pub mod Seeking
+pub mod Shown
 pub mod Right
 pub mod Examples

@@ -1,7 +1,7 @@
 -- What the second engine needs of operations: thread and target are in range, a thread is forked once, does nothing before its fork and nothing after its
 -- join, and isn't forked after its join. Of values, locks and waits it needs nothing.
 use Prim.Native.Nat.{ℕ}
-use mathlib.Core.Path.{_≡_, sym, ap, ap₂, _∙_, subst}
+use mathlib.Core.Path.{sym, ap, ap₂, _∙_, subst}
 use mathlib.Core.Logic.{_≢_}
 use mathlib.Core.Bool.{Bool, _&&_, _||_}
 use mathlib.Core.List.{List, _++_, map}

@@ -22,7 +22,7 @@ use Rattle.lists.proofs.Tests.{by, by-same, T-of, T-is, or-left, or-right, and-
 use Rattle.lists.proofs.Lists.{Among, Before, among-cons, all-has}
 use Rattle.graph.specs.Conflict.{forks, joins}
 use Rattle.graph.proofs.Steps.{among-none}
-use Rattle.second.proofs.Orderly.{ranged, Fits, Orderly, of-thread, of-target, of-child}
+use Rattle.second.proofs.Orderly.{ranged, Fits, Orderly, of-target, of-child}
 
 -- ---- what a possible event finds
 

@@ -59,7 +59,7 @@ returns c =
     let a = c .before .before .before .before .before .before .before .before .before .before .before .before .before .before .before .before .before .before .before .args in
     let f = c .before .before .before .take in
     seeking-hit (now (a .threads)) (now (a .kinds)) (now (a .targets)) (now (a .labels)) (a .count) (a .work .now) (at .i) (at .begun) (cellsOf (at .locks) (at .lasts) (at .writers) (at .readers)) (at .work) (at .inv .2) (omega arith) (omega (arith, ltb-true))
-    (f .result) (f .ensures .0) (c .before .before .before .before .before .before .before .before .before .before .before .before .before .rows-to-look .result) (c .before .before .before .before .before .before .before .before .before .before .before .before .before .rows-to-look .ensures) _ (f .last .1 .1 .1 .1 .0) (f .ensures .1) (c .if2 .taken)
+    (f .result) (f .ensures .0) (c .before .before .before .before .before .before .before .before .before .before .before .before .before .rows-to-look .result) (c .before .before .before .before .before .before .before .before .before .before .before .before .before .rows-to-look .ensures) (cellsOf (f .last .0) (f .last .1 .0) (f .last .1 .1 .0) (f .last .1 .1 .1 .0)) (f .last .1 .1 .1 .1 .0) (f .ensures .1) (c .if2 .taken)
 
 add-i : tie.Need-add-i Inv-loop μ-loop
 add-i c = omega arith
@@ -75,7 +75,7 @@ loop-again c =
       omega (arith, ltb-true),
       f .kept .1 .1 .1 .1 .0 ∙ at .inv .1,
       seeking-more (now (a .threads)) (now (a .kinds)) (now (a .targets)) (now (a .labels)) (a .count) (a .work .now) (at .i) (at .begun) (cellsOf (at .locks) (at .lasts) (at .writers) (at .readers)) (at .work) (at .inv .2) (omega arith) (omega (arith, ltb-true))
-          (f .result) (f .ensures .0) (c .before .before .before .before .before .before .before .before .before .before .before .before .before .rows-to-look .result) (c .before .before .before .before .before .before .before .before .before .before .before .before .before .rows-to-look .ensures) _ (f .last .1 .1 .1 .1 .0) (f .ensures .1) (c .if2 .left) (c .before .before .before .before .before .before .before .before .before .before .before .before .begun-with .result) (c .before .before .before .before .before .before .before .before .before .before .before .before .begun-with .ensures),
+          (f .result) (f .ensures .0) (c .before .before .before .before .before .before .before .before .before .before .before .before .before .rows-to-look .result) (c .before .before .before .before .before .before .before .before .before .before .before .before .before .rows-to-look .ensures) (cellsOf (f .last .0) (f .last .1 .0) (f .last .1 .1 .0) (f .last .1 .1 .1 .0)) (f .last .1 .1 .1 .1 .0) (f .ensures .1) (c .if2 .left) (c .before .before .before .before .before .before .before .before .before .before .before .before .begun-with .result) (c .before .before .before .before .before .before .before .before .before .before .before .before .begun-with .ensures),
     )
 
 same-length-2 : tie.Need-same-length-2 Inv-loop μ-loop

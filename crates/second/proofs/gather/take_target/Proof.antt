@@ -1,5 +1,5 @@
 -- `second::gather::take_target` meets its contract.
-use Prim.Native.Nat.{ℕ}
+use Prim.Native.Nat.{ℕ, _+_}
 use native.Mathlib.Omega.{arith}
 use mathlib.Core.Path.{sym, subst}
 use mathlib.Core.List.{List, [], _∷_}
@@ -79,7 +79,7 @@ returns-3 c =
     let s : Cells = cellsOf (now (a .locks)) (now (a .threads)) (now (a .writers)) (now (a .readers)) in
     let k = c .before .before .before .before .before .before .before .match .keys3 in (
       joins-asked s (a .work .now) _ (a .a) (a .kind) (a .target) _ (Key.Thread (a .target) ∷ []) (asked-join (a .kind) (a .target) k) (joins-cell _ _ _ _ _ _ (c .before .before .before .before .entry .ensures) (c .before .before .join-one .ensures)),
-      store-join _ _ _ _ _ k,
+      store-join s (a .t) (a .kind) (a .target) (a .a + 1) k,
     )
 
 same-length-3 : tie.Need-same-length-3
@@ -110,7 +110,7 @@ returns-6 c =
     let a = c .before .before .before .before .args in
     let s : Cells = cellsOf (now (a .locks)) (now (a .threads)) (now (a .writers)) (now (a .readers)) in (
       joins-asked s (a .work .now) _ (a .a) (a .kind) (a .target) _ [] (asked-none (a .kind) (a .target) (omega arith) (λ e. omega arith)) (joins-nothing (a .work .now) (a .a)),
-      store-yield _ _ _ _ _ (omega arith),
+      store-yield s (a .t) (a .kind) (a .target) (a .a + 1) (omega arith),
     )
 
 pub take-target-spec : {M : Type 1} → statement M
