@@ -18,7 +18,8 @@ use Rattle.lists.proofs.Tests.{by-same}
 use Rattle.lists.proofs.Lists.{Among, some-cons, some-append, among-map, map-append, map-map, below-has, below-more}
 use Rattle.rows.specs.Bits.{has}
 use Rattle.graph.specs.Held.{shown, labelledAs}
-use Rattle.ancestors.specs.Sources.{isOther, others, leads, spreadTo, more, Joins}
+use Rattle.ancestors.specs.Others.{isOther, others}
+use Rattle.ancestors.specs.Sources.{leads, spreadTo, more, Joins}
 use Rattle.ancestors.specs.Search.{closesCycle}
 use Rattle.ancestors.proofs.Joining.{others-none, others-append, some-other, joins-none, joins-then, joins-more, joins-held, joins-own, joins-meeting, joins-closed}
 use Rattle.ancestors.proofs.Searching.{closes-under, closes-over, rows-under, rows-over, kept-under, kept-over}

@@ -18,7 +18,7 @@ use Rattle.graph.specs.Transactions.{Labelled}
 use Rattle.graph.specs.Edges.{makes, edges}
 use Rattle.graph.proofs.Ends.{pair-has, has-pair}
 use Rattle.graph.proofs.Steps.{among-none, makes-of}
-use Rattle.ancestors.specs.Sources.{isOther, others}
+use Rattle.ancestors.specs.Others.{isOther, others}
 use Rattle.second.specs.Cells.{Cells, Key, cell, idle, asks, sources}
 use Rattle.second.specs.Edges.{into, sourcesOf, storedOf, secondFrom, secondEdges}
 use Rattle.second.proofs.Keys.{sameKey, hasKey, asksAt, leavesAt, asks-is, inside, Sized, sized-idle, sized-stored, cell-stored, cell-idle}

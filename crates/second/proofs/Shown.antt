@@ -12,7 +12,8 @@ use Rattle.lists.specs.Lists.{someOf}
 use Rattle.rows.specs.Bits.{has}
 use Rattle.graph.specs.Held.{shownOf}
 use Rattle.graph.specs.Transactions.{transactionLimit}
-use Rattle.ancestors.specs.Sources.{others, closedRows}
+use Rattle.ancestors.specs.Others.{others}
+use Rattle.ancestors.specs.Sources.{closedRows}
 use Rattle.ancestors.specs.Search as Search
 use Rattle.second.specs.Cells.{Cells, Key, cell, putAll, asked, left, sources, stored}
 use Rattle.second.specs.Taken.{closing, takenAs, taken}

@@ -6,7 +6,7 @@ use Rattle.record.specs.declared.Event.{Event}
 use Rattle.record.specs.declared.Op.{Op}
 use Rattle.record.specs.declared.Op.the-variants.{Read, Write, Acquire, Release, Prewait, Postwait, Notify, Fork, Join, Yield}
 use Rattle.lists.specs.Lists.{below}
-use Rattle.ancestors.specs.Sources.{others}
+use Rattle.ancestors.specs.Others.{others}
 
 -- For each lock, thread and variable, and for each variable and thread: 0, or a transaction and 1
 pub record Cells : Type 0 where

@@ -6,7 +6,8 @@ use mathlib.Core.Path.{_≡_, refl, sym, ap, _∙_, subst}
 use mathlib.Core.Logic.{⊎-elim}
 use lib.ListN.{length}
 use denote.Ref.{now}
-use Rattle.ancestors.specs.Sources.{others, Joins}
+use Rattle.ancestors.specs.Others.{others}
+use Rattle.ancestors.specs.Sources.{Joins}
 use Rattle.ancestors.proofs.Joining.{other-some}
 use Rattle.second.specs.Taken.{readersIn}
 use Rattle.second.proofs.ByKind.{readers-none, readers-join, readers-skip}

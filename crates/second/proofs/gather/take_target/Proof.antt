@@ -5,7 +5,8 @@ use mathlib.Core.Path.{sym, subst}
 use mathlib.Core.List.{List, [], _∷_}
 use lib.ListN.{getD}
 use denote.Ref.{now}
-use Rattle.ancestors.specs.Sources.{others, Joins}
+use Rattle.ancestors.specs.Others.{others}
+use Rattle.ancestors.specs.Sources.{Joins}
 use Rattle.second.specs.Cells.{Cells, cellsOf, Key, readersOf}
 use Rattle.second.proofs.ByKind.{asked-read, asked-write, asked-lock, asked-join, asked-none, joins-nothing, joins-asked, joins-cell, readers-are, store-read, store-write, store-lock, store-fork, store-join, store-yield}
 use borrow.Author.Needs.{needs}
