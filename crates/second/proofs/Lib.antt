@@ -1,0 +1,13 @@
+pub mod Orderly
+pub mod Possible
+pub mod Keys
+pub mod Meet
+pub mod Cover
+pub mod Agree
+pub mod Sources
+pub mod Holding
+pub mod ByKind
+pub mod Seeking
+pub mod Shown
+pub mod Right
+pub mod Examples
