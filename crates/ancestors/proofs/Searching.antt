@@ -307,3 +307,14 @@ found-alike es before prefix work f = record {
   size = f .size;
   rest = f .rest;
 }
+
+pub found-shown : (es : List Event) (before : List ℕ) (prefix : ℕ) (work : List ℕ) → Found es before prefix work → Found (map shownOf es) before prefix work
+found-shown es before prefix work f = record {
+  first = f .first ∙ sym (shortest-alike shownOf shown-alike es);
+  stands = λ z. subst (λ n. Stands n work (edges (labelled (map shownOf es)))) (sym (transactions-alike shownOf shown-alike es))
+      (subst (λ g. Stands (transactions es) work g) (sym (edges-alike shownOf shown-alike es)) (f .stands z));
+  row = λ k q b hb. subst (λ t. has work t b ≡ reaches (edgesUpTo (map shownOf es) (suc k)) b t) (sym (transaction-alike shownOf shown-alike es k))
+      (f .row k q b hb ∙ ap (λ g. reaches g b (transactionAt es k)) (sym (edges-up-to shownOf shown-alike es (suc k))));
+  size = f .size;
+  rest = f .rest;
+}

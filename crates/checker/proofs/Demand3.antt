@@ -8,16 +8,18 @@ use lib.ListN.{length, drop, replicate, length-map}
 use lib.Dec.{T}
 use Rattle.record.specs.declared.Event.{Event}
 use Rattle.record.specs.declared.Decoded.the-variants.{Good}
+use Rattle.record.specs.declared.Refusal.{Refusal}
+use Rattle.record.specs.Answers.{refusedAs, Ending}
 use Rattle.record.specs.Record.{event, decoded, encoded, inTwo, inRange, records, recordsOf}
 use Rattle.record.proofs.Laws.{decoded-good, decoded-range, decode-encoded}
 use Rattle.replay.specs.Machine.{fresh, possible}
 use Rattle.lists.specs.Lists.{each, over}
 use Rattle.trace.specs.Paths.{Cycle}
-use Rattle.lists.proofs.Lists.{Among, among-cons, Every}
+use Rattle.lists.proofs.Lists.{Among, all-has}
 use Rattle.trace.proofs.Swaps.{swaps-back, among-swaps, length-swaps}
 use Rattle.trace.proofs.Reach.{cycle-means, cycle-made}
 use Rattle.graph.specs.Conflict.{conflict}
-use Rattle.graph.specs.Arranged.{workSize}
+use Rattle.graph.specs.Transactions.{workSize}
 use Rattle.graph.specs.Swaps.{Swaps}
 use Rattle.graph.specs.Serial.{serialTrace}
 use Rattle.graph.specs.Violation.{edgesUpTo, cyclicUpTo, shortest, transactionAt, cycleOf}
@@ -27,10 +29,10 @@ use Rattle.graph.proofs.Demand3.{cooperable-right, violation-right}
 use Rattle.graph.proofs.Round.{cycle-right}
 use Rattle.graph.proofs.Meaning.{shortest-cyclic, shortest-first}
 use Rattle.checker.specs.Verdict.{Verdict, cooperable, violation, verdict}
-use Rattle.checker.specs.Refusals.{refusal, events}
-use Rattle.checker.specs.Judged.{Judged, judged}
+use Rattle.looking.specs.Refusals.{events}
+use Rattle.looking.proofs.Laws.{Passed, passed-more}
+use Rattle.checker.specs.Judged.{sizeChecks, refusal, judged}
 use Rattle.checker.specs.Demand3.{numbersIn, Written, Violated, Trusted}
-use Rattle.checker.proofs.Passed.{InForm, passed, records-sized}
 use Rattle.checker.proofs.Commute.{swaps-replay}
 
 -- ---- what is written can be read
@@ -56,12 +58,13 @@ decoded-all : (t : List Event) → ((e : Event) → Among e t → T (inRange e))
 decoded-all [] h = refl
 decoded-all (e ∷ t) h = ap₂ (λ d l. d ∷ l) (decode-encoded e (h e Among.top)) (decoded-all t (λ f m. h f (Among.deeper m)))
 
-all-ranged : (rs : List (List ℕ)) → Every (λ r. length r ≡ 8) rs → Every InForm rs → (e : Event) → Among e (map event rs) → T (inRange e)
-all-ranged (r ∷ rs) s f e m = among-cons m (λ q. subst (λ x. T (inRange x)) (sym q) (decoded-range r (event r) (decoded-good r (s .0) (f .0)))) (λ n. all-ranged rs (s .1) (f .1) e n)
+-- what a recording that isn't refused is
+pub passed : (input out work : List ℕ) → refusal input out work .number ≡ 0 → Passed input
+unfolding refusal sizeChecks
+passed input out work fine = passed-more input _ fine
 
 pub ranged : (input out work : List ℕ) → refusal input out work .number ≡ 0 → (e : Event) → Among e (events input) → T (inRange e)
-unfolding events
-ranged input out work fine e m = all-ranged (recordsOf input) (records-sized input out work fine) (passed input out work fine .1) e m
+ranged input out work fine e m = all-has inRange e (events input) (passed input out work fine .in-range) m
 
 -- ---- the promise, case by case
 
@@ -70,7 +73,7 @@ module _ (input out work : List ℕ) (fine : refusal input out work .number ≡ 
   es = events input
 
   -- the answer and the output, of any verdict
-  abbrev pub kept : Verdict → Judged
+  abbrev pub kept : Verdict → Ending
   kept v = record { answer = v .answer; out = over (v .written) out; work = over (replicate workSize 0) work }
 
   judged-fine : (v : Verdict) → verdict es ≡ v → judged input out work ≡ kept v
@@ -81,7 +84,7 @@ module _ (input out work : List ℕ) (fine : refusal input out work .number ≡ 
       by-refusal = rw (fine, judged)
 
   can : T (possible fresh es)
-  can = passed input out work fine .0
+  can = passed input out work fine .can-be
 
   -- ---- cooperable
 
@@ -172,12 +175,9 @@ module _ (input out work : List ℕ) (fine : refusal input out work .number ≡ 
 
 -- a refused recording changes nothing, and its answer is the refusal
 pub refused-keeps : (input out work : List ℕ) (n : ℕ) → refusal input out work .number ≡ suc n
-    → judged input out work ≡ record { answer = record { kind = 2; first = suc n; second = refusal input out work .place }; out = out; work = work }
+    → judged input out work ≡ record { answer = refusedAs (refusal input out work); out = out; work = work }
 unfolding judged
-refused-keeps input out work n e = rw (e, judged) (ap (λ m. refused m) e)
-  where
-    refused : ℕ → Judged
-    refused m = record { answer = record { kind = 2; first = m; second = refusal input out work .place }; out = out; work = work }
+refused-keeps input out work n e = rw (e, judged)
 
 -- an answer is of kind 0, 1 or 2
 pub kinds : (input out work : List ℕ) → judged input out work .answer .kind ≤ 2

@@ -1,51 +1,36 @@
--- Laws of the end of a judgement: what is to be written fits, and is what the definitions name.
-use Prim.Native.Nat.{ℕ, zero, suc, _*_, _≤_}
+-- Laws of the end of a judgement: what is named, that what is to be written fits, and that it is what the definitions name.
+use Prim.Native.Nat.{ℕ, zero, suc, _-_, _*_, _/_, _≤_, _<_, _^_, min}
 use native.Mathlib.Omega.{arith}
-use mathlib.Core.Path.{_≡_, refl, sym, ap, ap₂, _∙_}
-use mathlib.Core.List.{List, [], _∷_, _++_}
-use lib.ListN.{length, take, drop}
-use lib.Seq.{length-take-le, take-at, take-all}
+use mathlib.Core.Path.{_≡_, refl, sym, ap, ap₂, _∙_, subst}
+use mathlib.Core.Logic.{_≢_}
+use mathlib.Core.List.{List, [], _∷_, _++_, map}
+use lib.ListN.{length, getD, take, drop, replicate, length-append}
+use lib.Seq.{length-take-le, take-at}
 use Rattle.record.specs.declared.Event.{Event}
 use Rattle.record.specs.Record.{encoded, inTwo}
 use Rattle.lists.specs.Lists.{each, over}
-use Rattle.graph.specs.declared.Arranged.{Arranged}
-use Rattle.graph.specs.declared.Arranged.the-variants.{Unfit, Ordered, Cyclic}
-use Rattle.graph.specs.declared.label.Labelling.the-variants.{Done}
-use Rattle.graph.specs.Transactions.{Labelled, labelled, transactions}
-use Rattle.graph.specs.Serial.{eventsOf, threadOf, serialOrder, serialTrace}
+use Rattle.rows.specs.Bits.{cleared}
+use Rattle.rows.proofs.Laws.{cleared-is}
+use Rattle.graph.specs.Transactions.{Labelled, labelled, transactions, workSize}
+use Rattle.graph.specs.Serial.{eventsOf, serialOrder, serialTrace}
 use Rattle.graph.specs.Violation.{shortest, cycleOf}
-use Rattle.graph.specs.Arranged.{named, found}
-use Rattle.graph.specs.Engine.{pastEnd, held, Few, Labels}
-use Rattle.graph.proofs.Arranging.{labels-below}
+use Rattle.graph.specs.Named.{named}
+use Rattle.graph.specs.Held.{pastEnd, held, eventsIn, shownOf, Few}
 use Rattle.graph.proofs.Sizes.{order-size, trace-size, cycle-most, transactions-most}
+use Rattle.graph.proofs.Alike.{shown-alike, transactions-alike, shortest-alike, named-alike}
+use Rattle.naming.specs.Naming.{heldIn, namedBy}
+use Rattle.naming.proofs.Right.{named-right}
+use Rattle.looking.specs.Refusals.{events}
+use Rattle.looking.specs.Looked.{Arrays}
+use Rattle.checker.specs.declared.Answer.{Answer}
 use Rattle.checker.specs.declared.Answer.the-variants.{Cooperable, Violation}
 use Rattle.checker.specs.Verdict.{verdict, cooperable, violation}
-use Rattle.checker.specs.Report as Report
-use Rattle.checker.specs.Refusals.{events}
-use Rattle.checker.specs.Writing.{bytesIn, lineOf, numbersOf}
-use Rattle.checker.specs.Concluded.{Whole, Ready, Concluded}
-use Rattle.checker.proofs.Scanned.{events-size, event-at}
+use Rattle.checker.specs.Writing.{bytesIn, numbersOf}
+use Rattle.checker.specs.Concluded.{Whole, Ready, Named, Written, Concluded}
+use Rattle.looking.proofs.Scanned.{events-size, event-at}
+use Rattle.ancestors.proofs.Searching.{found-shown}
+use Rattle.checker.proofs.Written.{over-front}
 use Rattle.checker.proofs.Linking.{numbers-size, bytes-by-number}
-
--- ---- What was found
-
-found-ordered : (es : List Event) (p t : ℕ) → Ordered t ≡ found es p → (p ≡ 0) × (t ≡ transactions es)
-unfolding found
-found-ordered es zero t h = (refl, cc h)
-found-ordered es (suc k) t h = let z : _≡_ {A = ℕ} 0 1 = cc h in absurd (omega arith)
-
-found-cyclic : (es : List Event) (p k n : ℕ) → Cyclic k n ≡ found es p → (p ≡ suc k) × (n ≡ length (cycleOf es (suc k)))
-unfolding found
-found-cyclic es zero k n h = let z : _≡_ {A = ℕ} 0 1 = cc h in absurd (omega arith)
-found-cyclic es (suc j) k n h =
-    let q : k ≡ j = cc h in
-    let m : n ≡ length (cycleOf es (suc j)) = cc h in
-    (ap suc (sym q), m ∙ ap (λ i. length (cycleOf es (suc i))) (sym q))
-
-pub found-unfit : {C : Type 0} (es : List Event) (p : ℕ) → Unfit ≡ found es p → C
-unfolding found
-found-unfit es zero h = let z : _≡_ {A = ℕ} 0 1 = cc h in absurd (omega arith)
-found-unfit es (suc k) h = let z : _≡_ {A = ℕ} 0 1 = cc h in absurd (omega arith)
 
 verdict-cooperable : (es : List Event) → shortest es ≡ 0 → verdict es ≡ cooperable es
 unfolding verdict
@@ -63,126 +48,118 @@ pub named-cycle : (es : List Event) (k : ℕ) → shortest es ≡ suc k → name
 unfolding named
 named-cycle es k h = ap (named es) h
 
--- ---- A recording that isn't refused
+-- ---- What is written, of the transactions that are named
 
-module _ (input labels : List ℕ) (count n : ℕ) (w : Whole input labels count n) where
-  pub whole-size : length (events input) ≡ count
-  whole-size = omega (arith, events-size input, w .size)
-
-  whole-events : take count (events input) ≡ events input
-  whole-events = take-all count (events input) (omega (arith, whole-size))
-
-  -- an array that holds them
-  pub made-events : (all old : List Event) → all ≡ over (take count (events input)) old → take count all ≡ events input
-  unfolding over
-  made-events all old p =
-      let rest : List Event = drop (length (take count (events input))) old in
-      ap (take count) (p ∙ ap (λ l. l ++ rest) whole-events) ∙ take-at (events input) rest count whole-size
-
-  -- its labels, as the engines ask for them
-  pub whole-labels : Labels count (events input) labels (Done n)
-  whole-labels =
-      (ap labelled whole-events ∙ sym (w .labelled-are), w .counted ∙ ap transactions (sym whole-events), omega (arith, w .counted, w .few))
-
-  -- every label numbers one of the transactions
-  pub whole-few : Few count labels
-  whole-few i h = omega (arith, labels-below count (events input) labels n whole-labels i h, w .counted, w .few)
-
--- ---- What is written
-
-module _ (a : Arranged) (input labels : List ℕ) (count : ℕ) (order out : List ℕ) (r : Ready a input labels count order out) where
+module _ (input labels order : List ℕ) (k prefix : ℕ) (out : List ℕ) (r : Named input labels order k prefix out) where
   abbrev es : List Event
   es = events input
 
-  size : length es ≡ count
-  size = whole-size input labels count (transactions es) (r .whole)
+  abbrev count : ℕ
+  count = length input / 8
 
-  -- by arrays as by events
-  lines-are : (l : List ℕ) → each (lineOf count es labels) l ≡ each (Report.line es) l
-  unfolding lineOf Report.line
-  lines-are l = ap (λ xs. each (λ a. a ∷ threadOf xs a ∷ Report.firstRecord 0 xs a ∷ []) l) (r .whole .labelled-are)
+  size : length es ≡ count
+  size = events-size input
+
+  pub front-size : k ≡ length (take k order)
+  front-size = sym (length-take-le k order (r .order-size))
 
   bytes-are : (l : List ℕ) → each (bytesIn input) (each (numbersOf count labels) l) ≡ each encoded (each (eventsOf (labelled es)) l)
-  bytes-are l = bytes-by-number count es labels input (λ i h. ap encoded (sym (event-at input i pastEnd (omega (arith, r .whole .size))))) l ∙ ap (λ xs. each encoded (each (eventsOf xs) l)) (r .whole .labelled-are)
+  bytes-are l = bytes-by-number count es labels input (λ i h. ap encoded (sym (event-at input i pastEnd (omega (arith, r .size))))) l ∙ ap (λ xs. each encoded (each (eventsOf xs) l)) (r .labelled-are)
 
-  -- the named transactions stand at the front of the order, and each has its line
-  front-named : (n : ℕ) → n ≡ length (named es (shortest es)) → take n order ≡ named es (shortest es)
-  front-named n h = ap (λ k. take k order) h ∙ r .order-is
+  -- No cycle: all transactions, in serial order
+  module _ (none : prefix ≡ 0) where
+    no-cycle : shortest es ≡ 0
+    no-cycle = sym (r .first) ∙ none
 
-  pub lines-named : (n : ℕ) → n ≡ length (named es (shortest es)) → each (lineOf count es labels) (take n order) ≡ Report.lines es
-  unfolding Report.lines
-  lines-named n h = lines-are (take n order) ∙ ap (each (Report.line es)) (front-named n h)
+    in-turn : take k order ≡ serialOrder es
+    in-turn = r .order-is ∙ named-serial es no-cycle
 
-  -- at most 512 are named
-  front-size : (n : ℕ) → n ≤ 512 → n ≡ length (take n order)
-  front-size n h = sym (length-take-le n order (omega (arith, r .order-size)))
-
-  -- Ordered: all transactions, in serial order
-  module _ (t : ℕ) (is : a ≡ Ordered t) where
-    none : shortest es ≡ 0
-    none = found-ordered es (shortest es) t (sym is ∙ r .found-is) .0
-
-    all-few : t ≤ 512
-    all-few = omega (arith, found-ordered es (shortest es) t (sym is ∙ r .found-is) .1, r .whole .few)
-
-    all-named : t ≡ length (named es (shortest es))
-    all-named = found-ordered es (shortest es) t (sym is ∙ r .found-is) .1 ∙ sym (order-size es none) ∙ ap length (sym (named-serial es none))
-
-    in-turn : take t order ≡ serialOrder es
-    in-turn = front-named t all-named ∙ named-serial es none
-
-    trace-is : each (bytesIn input) (each (numbersOf count labels) (take t order)) ≡ each encoded (serialTrace es)
-    unfolding serialTrace
-    trace-is = bytes-are (take t order) ∙ ap (λ l. each encoded (each (eventsOf (labelled es)) l)) in-turn
-
-    pub all-size : t ≡ length (take t order)
-    all-size = front-size t all-few
-
-    pub trace-fits : length (each (numbersOf count labels) (take t order)) ≤ count
+    pub trace-fits : length (each (numbersOf count labels) (take k order)) ≤ count
     unfolding serialTrace
     trace-fits =
-        let long : length (each (eventsOf (held count es labels)) (take t order)) ≡ length (serialTrace es) =
-        ap₂ (λ (xs : List Labelled) (l : List ℕ). length (each (eventsOf xs) l)) (r .whole .labelled-are) in-turn in
-        omega (arith, numbers-size count es labels (take t order), long, trace-size es none, size)
+        let long : length (each (eventsOf (held count es labels)) (take k order)) ≡ length (serialTrace es) =
+        ap₂ (λ (xs : List Labelled) (l : List ℕ). length (each (eventsOf xs) l)) (r .labelled-are) in-turn in
+        omega (arith, numbers-size count es labels (take k order), long, trace-size es no-cycle, size)
 
-    pub concluded-cooperable : (out′ : List ℕ) → out′ ≡ over (each (bytesIn input) (each (numbersOf count labels) (take t order))) out
-        → Concluded es out out′ (Cooperable count t)
-    unfolding cooperable
-    concluded-cooperable out′ p =
-        let v = verdict-cooperable es none in
+    pub written-cooperable : (out′ : List ℕ) → out′ ≡ over (each (bytesIn input) (each (numbersOf count labels) (take k order))) out → Written es out (Cooperable count k) out′
+    unfolding cooperable serialTrace
+    written-cooperable out′ p =
+        let v = verdict-cooperable es no-cycle in
         record {
-          answer = ap₂ (λ (x y : ℕ). record { kind = 0; first = x; second = y }) (sym size) (found-ordered es (shortest es) t (sym is ∙ r .found-is) .1)
+          answer = ap₂ (λ (x y : ℕ). record { kind = 0; first = x; second = y }) (sym size) (r .count-is ∙ ap length (named-serial es no-cycle) ∙ order-size es no-cycle)
               ∙ ap (λ x. x .answer) (sym v);
-          written = p ∙ ap (λ l. over l out) (trace-is ∙ ap (λ x. x .written) (sym v));
-          all-named = all-named;
+          written = p ∙ ap (λ l. over l out) (bytes-are (take k order) ∙ ap (λ l. each encoded (each (eventsOf (labelled es)) l)) in-turn ∙ ap (λ x. x .written) (sym v));
+          counted = r .count-is;
         }
 
-  -- Cyclic: the cycle
-  module _ (k n : ℕ) (is : a ≡ Cyclic k n) where
-    some : shortest es ≡ suc k
-    some = found-cyclic es (shortest es) k n (sym is ∙ r .found-is) .0
+  -- A cycle
+  module _ (some : prefix ≢ 0) where
+    last : shortest es ≡ suc (prefix - 1)
+    last = let f : prefix ≡ shortest es = r .first in omega arith
 
-    long : n ≡ length (cycleOf es (suc k))
-    long = found-cyclic es (shortest es) k n (sym is ∙ r .found-is) .1
+    long : k ≡ length (cycleOf es (suc (prefix - 1)))
+    long = r .count-is ∙ ap length (named-cycle es (prefix - 1) last)
 
-    cycle-few : n ≤ 512
-    cycle-few = omega (arith, long, cycle-most es (suc k), r .whole .few)
+    pub cycle-fits : 2 * length (take k order) ≤ length out
+    cycle-fits = omega (arith, front-size, long, cycle-most es (suc (prefix - 1)), transactions-most es, size, r .size, r .out-room)
 
-    cycle-named : n ≡ length (named es (shortest es))
-    cycle-named = long ∙ ap length (sym (named-cycle es k some))
-
-    pub cycle-size : n ≡ length (take n order)
-    cycle-size = front-size n cycle-few
-
-    pub cycle-fits : 2 * length (take n order) ≤ length out
-    cycle-fits = omega (arith, cycle-size, long, cycle-most es (suc k), transactions-most es, size, r .whole .size, r .out-room)
-
-    pub concluded-violation : (out′ : List ℕ) → out′ ≡ over (each inTwo (take n order)) out → Concluded es out out′ (Violation k n)
+    pub written-violation : (out′ : List ℕ) → out′ ≡ over (each inTwo (take k order)) out → Written es out (Violation (prefix - 1) k) out′
     unfolding violation
-    concluded-violation out′ p =
-        let v = verdict-violation es k some in
+    written-violation out′ p =
+        let v = verdict-violation es (prefix - 1) last in
         record {
-          answer = ap (λ x. record { kind = 1; first = k; second = x }) long ∙ ap (λ x. x .answer) (sym v);
-          written = p ∙ ap (λ l. over l out) (ap (each inTwo) (front-named n cycle-named ∙ named-cycle es k some) ∙ ap (λ x. x .written) (sym v));
-          all-named = cycle-named;
+          answer = ap (λ x. record { kind = 1; first = prefix - 1; second = x }) long ∙ ap (λ x. x .answer) (sym v);
+          written = p ∙ ap (λ l. over l out) (ap (each inTwo) (r .order-is ∙ named-cycle es (prefix - 1) last) ∙ ap (λ x. x .written) (sym v));
+          counted = r .count-is;
         }
+
+over-long : (new old : List ℕ) → length new ≤ length (over new old)
+unfolding over
+over-long new old = omega (arith, length-append new (drop (length new) old))
+
+-- ---- What is named, by the rows
+
+module _ (input : List ℕ) (a : Arrays) (n prefix : ℕ) (work out : List ℕ) (r : Ready input a n prefix work out) (small : (i : ℕ) → getD work i 0 < 2 ^ 64) where
+  abbrev shownAll : List Event
+  shownAll = map shownOf (events input)
+
+  abbrev pub new : List ℕ
+  new = namedBy (heldIn (min (length input / 8) 1024) (a .threads) (a .kinds) (a .targets) (a .labels)) n prefix work
+
+  named-are : new ≡ named (events input) (shortest (events input))
+  named-are =
+      let es : List Event = events input in
+      let w = r .whole in
+      let n-is : n ≡ transactions shownAll = w .counted ∙ sym (transactions-alike shownOf shown-alike es) in
+      let most : min (length input / 8) 1024 ≡ length input / 8 = omega (arith, w .most) in
+      ap (λ m. namedBy (heldIn m (a .threads) (a .kinds) (a .targets) (a .labels)) n prefix work) most
+      ∙ ap (λ xs. namedBy xs n prefix work) (w .shown-are)
+      ∙ ap (λ m. namedBy (labelled shownAll) m prefix work) n-is
+      ∙ named-right shownAll (omega (arith, transactions-alike shownOf shown-alike es, w .few)) work (r .long) prefix work (found-shown es work prefix work (r .found)) small
+      ∙ named-alike shownOf shown-alike es (shortest shownAll)
+      ∙ ap (named es) (shortest-alike shownOf shown-alike es)
+
+  pub ready-named : (k : ℕ) (order order′ : List ℕ) → k ≡ length new → order′ ≡ over new order → Named input (a .labels) order′ k prefix out
+  ready-named k order order′ k-is order-is =
+      let all : List ℕ = named (events input) (shortest (events input)) in
+      let over-all : order′ ≡ over all order = order-is ∙ ap (λ l. over l order) named-are in
+      let count-is : k ≡ length all = k-is ∙ ap length named-are in
+      record {
+        size = r .whole .size;
+        most = r .whole .most;
+        labelled-are = r .whole .labelled-are;
+        label-few = r .whole .label-few;
+        first = r .found .first;
+        count-is = count-is;
+        order-is = ap₂ take count-is over-all ∙ over-front all order;
+        order-size = omega (arith, count-is, ap length over-all, over-long all order);
+        out-room = r .out-room;
+      }
+
+  pub concluded : (k : ℕ) (order order′ work′ : List ℕ) (x : Answer) (out′ : List ℕ) → order′ ≡ over new order → work′ ≡ cleared work → Written (events input) out x out′
+      → Concluded (events input) out work order x out′ work′ order′
+  concluded k order order′ work′ x out′ order-is work-is w = record {
+    written = w;
+    cleared = work-is ∙ cleared-is work (r .long);
+    all-named = order-is ∙ ap (λ l. over l order) named-are;
+  }

@@ -17,7 +17,7 @@ use Rattle.lists.proofs.Tests.{by, by-same}
 use Rattle.lists.proofs.Lists.{from-step, from-none, first-true, first-false, keep-true, keep-false, map-append}
 use Rattle.graph.specs.Transactions.{Labelled}
 use Rattle.graph.specs.Serial.{eventsOf, threadOf}
-use Rattle.graph.specs.Engine.{pastEnd, recordAt, held}
+use Rattle.graph.specs.Held.{pastEnd, recordAt, held}
 use Rattle.graph.proofs.Held.{held-from, held-end}
 use Rattle.checker.specs.Report.{firstRecord}
 use Rattle.checker.specs.Writing.{bytesIn, Numbering, numbersFrom, numbersOf, noRecord, firstFrom, Linked, chain}

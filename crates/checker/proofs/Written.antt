@@ -15,7 +15,7 @@ use Rattle.record.proofs.Laws.{encoded-over, size-over, length-encoded}
 use Rattle.lists.specs.Lists.{each, over}
 use Rattle.lists.proofs.Lists.{each-append}
 use Rattle.graph.specs.Serial.{threadOf}
-use Rattle.graph.specs.Engine.{held}
+use Rattle.graph.specs.Held.{held}
 use Rattle.checker.specs.Report.{firstRecord}
 use Rattle.checker.specs.Writing.{writtenAt, lineOf, Numbering}
 

@@ -13,8 +13,8 @@ use Rattle.trace.specs.Paths.{Cycle}
 use Rattle.graph.specs.Swaps.{Swaps, Serial}
 use Rattle.graph.specs.Violation.{edgesUpTo, transactionAt}
 use Rattle.graph.specs.Rule.{Reported}
-use Rattle.checker.specs.Verdict.{Numbers}
-use Rattle.checker.specs.Refusals.{events}
+use Rattle.record.specs.Answers.{Numbers}
+use Rattle.looking.specs.Refusals.{events}
 use Rattle.checker.specs.Judged.{judged}
 
 -- the first n numbers of a list of bytes, two bytes each, low byte first

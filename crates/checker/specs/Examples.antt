@@ -15,9 +15,9 @@ use Rattle.graph.specs.Edges as Edges
 use Rattle.graph.specs.Serial as Serial
 use Rattle.graph.specs.Violation as Violations
 use Rattle.checker.specs.Verdict as Verdicts
-use Rattle.checker.specs.Refusals as Refusals
+use Rattle.looking.specs.Refusals as Refusals
 use Rattle.checker.specs.Judged as Whole
-use Rattle.checker.specs.Verdict.{Numbers}
+use Rattle.record.specs.Answers.{Numbers}
 use Rattle.checker.specs.Judged.{judged}
 
 -- Lines of a recording: the thread, then what is touched, then the value. They are written out as bytes, and not by `encoded`

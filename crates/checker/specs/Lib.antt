@@ -1,11 +1,8 @@
 pub mod Verdict
-pub mod Refusals
 pub mod Judged
 pub mod Demand3
 pub mod Report
-pub mod Examined
-pub mod Seeing
+pub mod Examples
+pub mod Left
 pub mod Writing
 pub mod Concluded
-pub mod Examples
-pub mod Seeking

@@ -8,8 +8,9 @@ use Rattle.lists.specs.Lists.{each, over}
 use Rattle.graph.specs.Transactions.{Labelled, labelled}
 use Rattle.graph.specs.Serial.{threadOf}
 use Rattle.graph.specs.Violation.{shortest}
-use Rattle.graph.specs.Arranged.{named}
-use Rattle.checker.specs.Refusals.{refusal, events}
+use Rattle.graph.specs.Named.{named}
+use Rattle.looking.specs.Refusals.{events}
+use Rattle.checker.specs.Judged.{refusal}
 
 -- the number of the first record of transaction a, where the first of the list is record k
 unfoldable pub firstRecord : ℕ → List Labelled → ℕ → ℕ

@@ -3,6 +3,7 @@ use Prim.Native.Nat.{ℕ, zero, suc}
 use mathlib.Core.List.{List}
 use lib.ListN.{length}
 use Rattle.record.specs.declared.Event.{Event}
+use Rattle.record.specs.Answers.{Numbers, refusedAs}
 use Rattle.record.specs.Record.{encoded, inTwo}
 use Rattle.lists.specs.Lists.{each}
 use Rattle.graph.specs.Transactions.{transactions}
@@ -11,17 +12,12 @@ use Rattle.graph.specs.Violation.{shortest, cycleOf}
 use Rattle.checker.specs.declared.Answer.{Answer}
 use Rattle.checker.specs.declared.Answer.the-variants.{Cooperable, Violation, Refused}
 
--- This paper's number and values for each case of an answer: the kind, then the two numbers that its first line gives.
+-- This paper's number and values for each case of an answer.
 -- 0 cooperable: records and transactions.  1 violation: record and cycle length.  2 refused: number and record
-pub record Numbers : Type 0 where
-  pub kind : ℕ
-  pub first : ℕ
-  pub second : ℕ
-
 abbrev pub numbers : Answer → Numbers
 numbers (Cooperable records transactions) = record { kind = 0; first = records; second = transactions }
-numbers (Violation place length) = record { kind = 1; first = place; second = length }
-numbers (Refused r) = record { kind = 2; first = r .number; second = r .record }
+numbers (Violation place cycle) = record { kind = 1; first = place; second = cycle }
+numbers (Refused r) = refusedAs r
 
 -- an answer, and the bytes that are written for it
 pub record Verdict : Type 0 where

@@ -1,5 +1,5 @@
 -- What the checker's private functions promise one another about what they write.
--- A reader of the public promise need not read this.
+-- A reader of the public promises need not read this.
 use Prim.Native.Nat.{ℕ, zero, suc, _+_, _-_, _*_, _<_}
 use mathlib.Core.Path.{_≡_}
 use mathlib.Core.Bool.{true, false}
@@ -9,7 +9,7 @@ use lib.ListN.{length, getD, take, drop}
 use Rattle.record.specs.declared.Event.{Event}
 use Rattle.record.specs.Record.{recordSize, event, encoded}
 use Rattle.lists.specs.Lists.{keep, firstOf, from}
-use Rattle.graph.specs.Engine.{held}
+use Rattle.graph.specs.Held.{held}
 use Rattle.graph.specs.Serial.{threadOf}
 use Rattle.checker.specs.Report.{firstRecord}
 

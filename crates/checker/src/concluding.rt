@@ -1,11 +1,10 @@
-// The end of a judgement: what is written for an arrangement, and the answer.
+// The end of a judgement: the transactions that are named, what is written for them, and the answer.
 use crate::Answer;
-use crate::Refusal;
 use crate::writing;
-use graph::Arranged;
 ghost use mathlib.Core.Path.{_≡_};
-ghost use Rattle.checker.specs.Refusals.{events};
-ghost use Rattle.checker.specs.Concluded.{Ready, Concluded, namedIn};
+ghost use Rattle.looking.specs.Refusals.{events};
+ghost use Rattle.looking.specs.Looked.{arraysOf};
+ghost use Rattle.checker.specs.Concluded.{namedIn, Named, Written, Ready, Concluded};
 
 // How many transactions an answer names.
 pub fn named(answer: Answer) -> usize
@@ -18,34 +17,61 @@ pub fn named(answer: Answer) -> usize
     }
 }
 
-// Writes the serial trace or the cycle. `Unfit` is never found here.
-pub fn conclude(
-    found: Arranged,
+// Writes the serial trace or the cycle, of the transactions at the front of the order.
+fn write_named(
     input: &[u8],
     labels: &[u16; 1024],
-    count: usize,
     order: &[u16],
+    named: usize,
+    prefix: usize,
     out: &mut [u8],
 ) -> Answer
-    requires { ⌜ Ready found (now input) (now labels) count (now order) (now out) ⌝ }
-    ensures { λ r. ⌜ Concluded (events (now (input .entry))) (now (out .entry)) (now (out .exit)) r ⌝ }
+    requires { ⌜ Named (now input) (now labels) (now order) named prefix (now out) ⌝ }
+    ensures { λ r. ⌜ Written (events (now (input .entry))) (now (out .entry)) r (now (out .exit)) ⌝ }
 {
-    match found {
-        Arranged::Ordered { transactions } => {
-            let serial = &order[..transactions];
-            writing::write_serial(input, labels, count, serial, out);
-            Answer::Cooperable {
-                records: count,
-                transactions,
-            }
-        }
-        Arranged::Cyclic { record, length } => {
-            writing::write_cycle(&order[..length], out);
-            Answer::Violation { record, length }
-        }
-        Arranged::Unfit => Answer::Refused(Refusal {
-            number: 0,
-            record: 0,
-        }),
+    let front = &order[..named];
+    if prefix == 0 {
+        let records = input.len() / 8;
+        writing::write_serial(input, labels, records, front, out);
+        return Answer::Cooperable {
+            records,
+            transactions: named,
+        };
     }
+    writing::write_cycle(front, out);
+    Answer::Violation {
+        record: prefix - 1,
+        length: named,
+    }
+}
+
+// Names the transactions by the rows, clears the rows, and writes the serial trace or the cycle.
+pub fn conclude(
+    input: &[u8],
+    threads: &[u8; 1024],
+    kinds: &[u8; 1024],
+    targets: &[u8; 1024],
+    labels: &[u16; 1024],
+    n: u16,
+    prefix: usize,
+    order: &mut [u16; 512],
+    out: &mut [u8],
+    work: &mut [u64],
+) -> Answer
+    requires { ⌜ Ready (now input) (arraysOf (now threads) (now kinds) (now targets) (now labels)) n prefix (now work) (now out) ⌝ }
+    ensures { λ r. ⌜ Concluded (events (now (input .entry))) (now (out .entry)) (now (work .entry)) (now (order .entry)) r (now (out .exit)) (now (work .exit)) (now (order .exit)) ⌝ }
+{
+    let named = naming::name(
+        threads,
+        kinds,
+        targets,
+        labels,
+        input.len() / 8,
+        n,
+        prefix,
+        order,
+        &*work,
+    );
+    rows::clear(work);
+    write_named(input, labels, &*order, named, prefix, out)
 }

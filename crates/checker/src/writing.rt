@@ -4,8 +4,7 @@ ghost use mathlib.Core.Path.{_≡_};
 ghost use lib.ListN.{length, getD};
 ghost use Rattle.record.specs.Record.{inTwo};
 ghost use Rattle.lists.specs.Lists.{each, over};
-ghost use Rattle.graph.specs.Engine.{Few};
-ghost use Rattle.checker.specs.Refusals.{events};
+ghost use Rattle.graph.specs.Held.{Few};
 ghost use Rattle.checker.specs.Writing.{writtenAt, bytesIn, lineOf, noRecord, Numbering, numbersOf, Linked, chain};
 
 // Links the records, the last first: for each transaction its first record, and for each record the next of its transaction. 1,024 is none.
@@ -114,14 +113,15 @@ pub fn write_cycle(cycle: &[u16], out: &mut [u8])
 
 // Writes a line for each transaction of `order`: its number, its thread, its first record.
 pub fn write_lines(
-    input: &[u8],
+    threads: &[u8; 1024],
     labels: &[u16; 1024],
     count: usize,
     order: &[u16],
     lines: &mut [u16],
 )
-    requires { ⌜ (count ≤ 1024) × (8 * count ≤ length (now input)) × Few count (now labels) × (3 * length (now order) ≤ length (now lines)) ⌝ }
-    ensures { λ _. ⌜ now (lines .exit) ≡ over (each (lineOf count (events (now (input .entry))) (now (labels .entry))) (now (order .entry))) (now (lines .entry)) ⌝ }
+    requires { ⌜ (count ≤ 1024) × Few count (now labels) × (3 * length (now order) ≤ length (now lines)) ⌝ }
+    ensures { λ _. ⌜ ((all : List Event) → ((i : ℕ) → i < count → getD (now (threads .entry)) i 0 ≡ getD all i pastEnd .thread) →
+        now (lines .exit) ≡ over (each (lineOf count all (now (labels .entry))) (now (order .entry))) (now (lines .entry))) ⌝ }
 {
     let mut firsts = [1024u16; 512];
     let mut nexts = [1024u16; 1024];
@@ -133,9 +133,7 @@ pub fn write_lines(
         let mut thread = 0;
         let mut first = 0;
         if i < 1024 {
-            let at = 8 * i as usize;
-            let e = record::event_of(&input[at..at + 8]);
-            thread = e.thread as u16;
+            thread = threads[i as usize] as u16;
             first = i;
         }
         lines[3 * k] = a;

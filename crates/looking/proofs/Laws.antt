@@ -184,12 +184,22 @@ module _ (es : List Event) (most : length es ≤ 1024) (old : Arrays) where
           ∙ sym (map-at (λ (x : Labelled). labelledAs (x .transaction) (shownOf (x .event))) (labelled es) i blank blank (inside es i h))
           ∙ ap (λ l. getD l i blank) (sym (labelled-alike shownOf shown-alike es))
 
+  -- and with their own events
+  noted-owned : held (length es) es (here .labels) ≡ labelled es
+  noted-owned = ext-getD blank (held (length es) es (here .labels)) (labelled es)
+      (length-held (length es) es (here .labels) ∙ sym (labelled-length none-yet es))
+      (λ i k. same i (omega (arith, k, length-held (length es) es (here .labels))))
+    where
+      same : (i : ℕ) → i < length es → getD (held (length es) es (here .labels)) i blank ≡ getD (labelled es) i blank
+      same i h = held-at i (length es) es (here .labels) blank h ∙ ap₂ labelledAs (label-at i h) (sym (own-event es i h))
+
   noted-few : transactions es ≤ 512 → Few (length es) (here .labels)
   noted-few few i h = omega (arith, label-at i h, own-few es i h, few)
 
 -- What the arrays hold of a recording that isn't refused, and how many transactions there are
 pub record Noted (input : List ℕ) (a : Arrays) (n : ℕ) : Type 0 where
   pub labelled-are : held (length input / 8) (eventsIn (a .threads) (a .kinds) (a .targets)) (a .labels) ≡ labelled (map shownOf (events input))
+  pub owned-are : held (length input / 8) (events input) (a .labels) ≡ labelled (events input)
   pub few : Few (length input / 8) (a .labels)
   pub counted : n ≡ transactions (events input)
 
@@ -211,6 +221,8 @@ module _ (input : List ℕ) (old : Arrays) (r : Looking) (is : r ≡ looked inpu
       record {
         labelled-are = subst (λ a. held (length input / 8) (eventsIn (a .threads) (a .kinds) (a .targets)) (a .labels) ≡ labelled (map shownOf es)) arrays-are
             (subst (λ k. held k (all es most old) (noted es old .labels) ≡ labelled (map shownOf es)) size (noted-held es most old));
+        owned-are = subst (λ a. held (length input / 8) es (a .labels) ≡ labelled es) arrays-are
+            (subst (λ k. held k es (noted es old .labels) ≡ labelled es) size (noted-owned es most old));
         few = subst (λ a. Few (length input / 8) (a .labels)) arrays-are (subst (λ k. Few k (noted es old .labels)) size (noted-few es most old (p .few)));
         counted = ap (λ x. x .transactions) is ∙ ap transactions all-sound;
       }
