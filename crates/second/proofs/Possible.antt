@@ -220,10 +220,10 @@ in-range e r =
     and-both a b (and-left a (b && c) r) (and-left b c (and-right a (b && c) r))
 
 -- A possible history whose fields are in range is orderly
-pub possible-orderly : (es : List Event) → T (possible fresh es) → T (allOf inRange es) → Orderly es
+pub history-orderly : (es : List Event) → T (possible fresh es) → ((e : Event) → Among e es → T (inRange e)) → Orderly es
 unfolding fresh
-possible-orderly es p r =
-    let ranges : (e : Event) → Among e es → T (ranged e) = λ e i. in-range e (all-has inRange e es r i) in
+history-orderly es p r =
+    let ranges : (e : Event) → Among e es → T (ranged e) = λ e i. in-range e (r e i) in
     let told : Told [] (fresh .lives) = record {
       size = refl;
       acted = λ x i. absurd (among-none i);
@@ -231,3 +231,6 @@ possible-orderly es p r =
       joined-is = λ x i. absurd (among-none i);
     } in
     record { ranges = ranges; pairs = ahead [] fresh es told ranges p .within }
+
+pub possible-orderly : (es : List Event) → T (possible fresh es) → T (allOf inRange es) → Orderly es
+possible-orderly es p r = history-orderly es p (λ e i. all-has inRange e es r i)
