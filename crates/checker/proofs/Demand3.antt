@@ -8,8 +8,7 @@ use lib.ListN.{length, drop, replicate, length-map}
 use lib.Dec.{T}
 use Rattle.record.specs.declared.Event.{Event}
 use Rattle.record.specs.declared.Decoded.the-variants.{Good}
-use Rattle.record.specs.declared.Refusal.{Refusal}
-use Rattle.record.specs.Answers.{refusedAs, Ending}
+use Rattle.record.specs.Answers.{Ending}
 use Rattle.record.specs.Record.{event, decoded, encoded, inTwo, inRange, records, recordsOf}
 use Rattle.record.proofs.Laws.{decoded-good, decoded-range, decode-encoded}
 use Rattle.replay.specs.Machine.{fresh, possible}
@@ -175,9 +174,12 @@ module _ (input out work : List ℕ) (fine : refusal input out work .number ≡ 
 
 -- a refused recording changes nothing, and its answer is the refusal
 pub refused-keeps : (input out work : List ℕ) (n : ℕ) → refusal input out work .number ≡ suc n
-    → judged input out work ≡ record { answer = refusedAs (refusal input out work); out = out; work = work }
+    → judged input out work ≡ record { answer = record { kind = 2; first = suc n; second = refusal input out work .place }; out = out; work = work }
 unfolding judged
-refused-keeps input out work n e = rw (e, judged)
+refused-keeps input out work n e = rw (e, judged) (ap (λ m. refused m) e)
+  where
+    refused : ℕ → Ending
+    refused m = record { answer = record { kind = 2; first = m; second = refusal input out work .place }; out = out; work = work }
 
 -- an answer is of kind 0, 1 or 2
 pub kinds : (input out work : List ℕ) → judged input out work .answer .kind ≤ 2

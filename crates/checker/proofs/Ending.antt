@@ -4,7 +4,7 @@ use native.Mathlib.Omega.{arith}
 use mathlib.Core.Path.{_≡_, refl, sym, ap, ap₂, _∙_, subst}
 use mathlib.Core.Logic.{_≢_}
 use mathlib.Core.List.{List, [], _∷_, _++_, map}
-use lib.ListN.{length, getD, take, drop, replicate, length-append}
+use lib.ListN.{length, getD, take, drop, replicate, length-append, length-replicate}
 use lib.Seq.{length-take-le, take-at}
 use Rattle.record.specs.declared.Event.{Event}
 use Rattle.record.specs.Record.{encoded, inTwo}
@@ -117,6 +117,14 @@ over-long : (new old : List ℕ) → length new ≤ length (over new old)
 unfolding over
 over-long new old = omega (arith, length-append new (drop (length new) old))
 
+-- the rows cleared
+cleared-over : (w : List ℕ) → workSize ≤ length w → cleared w ≡ over (replicate workSize 0) w
+unfolding over
+cleared-over w long =
+    let n : ℕ = workSize in
+    let z : ℕ = 0 in
+    cleared-is w long ∙ ap (λ k. replicate n z ++ drop k w) (sym (length-replicate n z))
+
 -- ---- What is named, by the rows
 
 module _ (input : List ℕ) (a : Arrays) (n prefix : ℕ) (work out : List ℕ) (r : Ready input a n prefix work out) (small : (i : ℕ) → getD work i 0 < 2 ^ 64) where
@@ -160,6 +168,6 @@ module _ (input : List ℕ) (a : Arrays) (n prefix : ℕ) (work out : List ℕ) 
       → Concluded (events input) out work order x out′ work′ order′
   concluded k order order′ work′ x out′ order-is work-is w = record {
     written = w;
-    cleared = work-is ∙ cleared-is work (r .long);
+    cleared = work-is ∙ cleared-over work (r .long);
     all-named = order-is ∙ ap (λ l. over l order) named-are;
   }

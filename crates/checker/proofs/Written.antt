@@ -14,10 +14,9 @@ use Rattle.record.specs.Record.{encoded, encodedOver, encodedSize}
 use Rattle.record.proofs.Laws.{encoded-over, size-over, length-encoded}
 use Rattle.lists.specs.Lists.{each, over}
 use Rattle.lists.proofs.Lists.{each-append}
-use Rattle.graph.specs.Serial.{threadOf}
-use Rattle.graph.specs.Held.{held}
-use Rattle.checker.specs.Report.{firstRecord}
-use Rattle.checker.specs.Writing.{writtenAt, lineOf, Numbering}
+use mathlib.Core.Bool.{cond}
+use lib.Dec.{ltb}
+use Rattle.checker.specs.Writing.{writtenAt, Numbering, noRecord, firstFrom, lineOf}
 
 -- ---- Written from a place on
 
@@ -232,13 +231,15 @@ length-each f w h (a ∷ l) =
     let q : length (each f l) ≡ w * length l = length-each f w h l in
     p ∙ ap₂ _+_ (h a) q ∙ add-comm w (w * length l) ∙ sym (mul-suc w (length l))
 
-pub length-line : (n : ℕ) (all : List Event) (labels : List ℕ) (a : ℕ) → length (lineOf n all labels a) ≡ 3
+pub length-line : (n : ℕ) (threads labels : List ℕ) (a : ℕ) → length (lineOf n threads labels a) ≡ 3
 unfolding lineOf
-length-line n all labels a = refl
+length-line n threads labels a = refl
 
--- a line stored, its thread and its first record known
-pub line-stored : (n : ℕ) (all : List Event) (labels : List ℕ) (a t f : ℕ) (l : List ℕ) (i : ℕ) → i + 3 ≤ length l
-    → t ≡ threadOf (held n all labels) a → f ≡ firstRecord 0 (held n all labels) a
-    → set (set (set l i a) (i + 1) t) (i + 2) f ≡ writtenAt l i (lineOf n all labels a)
+-- a line stored, its first record known
+pub line-stored : (n : ℕ) (threads labels : List ℕ) (a f t k : ℕ) (l : List ℕ) (i : ℕ) → i + 3 ≤ length l → f ≡ firstFrom n labels a 0
+    → t ≡ cond (ltb f noRecord) (getD threads f 0) 0 → k ≡ cond (ltb f noRecord) f 0
+    → set (set (set l i a) (i + 1) t) (i + 2) k ≡ writtenAt l i (lineOf n threads labels a)
 unfolding lineOf
-line-stored n all labels a t f l i h p q = three-stores l i a t f h ∙ ap₂ (λ (x y : ℕ). writtenAt l i (a ∷ x ∷ y ∷ [])) p q
+line-stored n threads labels a f t k l i h is p q =
+    three-stores l i a t k h
+    ∙ ap₂ (λ (x y : ℕ). writtenAt l i (a ∷ x ∷ y ∷ [])) (p ∙ ap (λ j. cond (ltb j noRecord) (getD threads j 0) 0) is) (q ∙ ap (λ j. cond (ltb j noRecord) j 0) is)

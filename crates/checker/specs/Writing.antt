@@ -2,16 +2,12 @@
 -- A reader of the public promises need not read this.
 use Prim.Native.Nat.{ℕ, zero, suc, _+_, _-_, _*_, _<_}
 use mathlib.Core.Path.{_≡_}
-use mathlib.Core.Bool.{true, false}
+use mathlib.Core.Bool.{true, false, cond}
 use mathlib.Core.List.{List, [], _∷_, _++_}
 use lib.Dec.{eqb, ltb}
 use lib.ListN.{length, getD, take, drop}
-use Rattle.record.specs.declared.Event.{Event}
 use Rattle.record.specs.Record.{recordSize, event, encoded}
 use Rattle.lists.specs.Lists.{keep, firstOf, from}
-use Rattle.graph.specs.Held.{held}
-use Rattle.graph.specs.Serial.{threadOf}
-use Rattle.checker.specs.Report.{firstRecord}
 
 -- numbers written into a list from place n on
 unfoldable pub writtenAt : List ℕ → ℕ → List ℕ → List ℕ
@@ -24,10 +20,6 @@ recordIn input i = take recordSize (drop (recordSize * i) input)
 -- what is written for it: the bytes of the event that it stands for
 abbrev pub bytesIn : List ℕ → ℕ → List ℕ
 bytesIn input i = encoded (event (recordIn input i))
-
--- a transaction's line, among the first n events with their labels: its number, its thread, its first record
-unfoldable pub lineOf : ℕ → List Event → List ℕ → ℕ → List ℕ
-lineOf n es labels a = a ∷ threadOf (held n es labels) a ∷ firstRecord 0 (held n es labels) a ∷ []
 
 -- ---- The records by number, linked
 
@@ -59,3 +51,9 @@ pub record Linked (n : ℕ) (labels firsts nexts : List ℕ) : Type 0 where
 unfoldable pub chain : List ℕ → ℕ → ℕ → List ℕ
 chain nexts zero i = []
 chain nexts (suc k) i = elim (ltb i noRecord) [ true ↦ i ∷ chain nexts k (getD nexts i 0) | false ↦ [] ]
+
+-- A transaction's line, by the threads and the labels of n records: its number, the thread of its first record, and that record
+unfoldable pub lineOf : ℕ → List ℕ → List ℕ → ℕ → List ℕ
+lineOf n threads labels a =
+    let i : ℕ = firstFrom n labels a 0 in
+    a ∷ cond (ltb i noRecord) (getD threads i 0) 0 ∷ cond (ltb i noRecord) i 0 ∷ []

@@ -120,8 +120,7 @@ pub fn write_lines(
     lines: &mut [u16],
 )
     requires { ⌜ (count ≤ 1024) × Few count (now labels) × (3 * length (now order) ≤ length (now lines)) ⌝ }
-    ensures { λ _. ⌜ ((all : List Event) → ((i : ℕ) → i < count → getD (now (threads .entry)) i 0 ≡ getD all i pastEnd .thread) →
-        now (lines .exit) ≡ over (each (lineOf count all (now (labels .entry))) (now (order .entry))) (now (lines .entry))) ⌝ }
+    ensures { λ _. ⌜ now (lines .exit) ≡ over (each (lineOf count (now (threads .entry)) (now (labels .entry))) (now (order .entry))) (now (lines .entry)) ⌝ }
 {
     let mut firsts = [1024u16; 512];
     let mut nexts = [1024u16; 1024];

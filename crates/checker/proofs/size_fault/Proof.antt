@@ -6,8 +6,8 @@ use mathlib.Core.List.{List}
 use lib.ListN.{length}
 use borrow.Author.Tests.{le-leb, lt-leb}
 use Rattle.record.specs.Faults.{firstFault}
-use Rattle.checker.specs.Examined.{inputChecks}
-use Rattle.checker.proofs.Finding.{size-first, size-next}
+use Rattle.looking.specs.Refusals.{inputChecks}
+use Rattle.checker.proofs.Judging.{size-first, size-next}
 use borrow.Author.Needs.{needs}
 use Rattle.checker.proofs.size_fault.Statement.{statement}
 use Rattle.checker.proofs.size_fault.Tie as tie

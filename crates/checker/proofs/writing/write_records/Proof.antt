@@ -10,7 +10,7 @@ use Rattle.record.proofs.Laws.{size-most, length-encoded}
 use Rattle.lists.specs.Lists.{each}
 use Rattle.checker.specs.Writing.{writtenAt, recordIn, bytesIn}
 use Rattle.checker.proofs.Written.{Going, going-start, going-room, going-more, going-end, length-each, written-part, written-size}
-use Rattle.checker.proofs.Scanned.{part-is}
+use Rattle.looking.proofs.Scanned.{part-is}
 use Rattle.checker.proofs.writing.write_records.Statement.{statement}
 use Rattle.checker.proofs.writing.write_records.Tie as tie
 
