@@ -120,7 +120,7 @@ returns c =
     let here : Arrays = arraysOf (at .threads) (at .kinds) (at .targets) (at .labels) in
     let g = c .before .before .number .given in
     ap (λ (r : Looked). record { refusal = r .refusal; transactions = r .transactions; arrays = here }) (c .found .ensures)
-    ∙ looked-stop input (s .pre .0) old run here (at .i) (at .inv .2) (c .before .before .before .before .before .before .before .before .before .before .before .before .loop-test .taken) _ (part-is input (at .i)) _ (g .0 .0) (subst (Saw run _ _) (g .1) (c .before .before .before .before .see .ensures))
+    ∙ looked-stop input (s .pre .0) old run here (at .i) (at .inv .2) (omega (arith, c .before .before .before .before .before .before .before .before .before .before .before .before .loop-test .taken)) _ (part-is input (at .i)) _ (g .0 .0) (subst (Saw run _ _) (g .1) (c .before .before .before .before .see .ensures))
 
 add-i : tie.Need-add-i Inv-loop μ-loop
 add-i c = omega arith
