@@ -1,13 +1,13 @@
 -- `looking::seeing::see_all` meets its contract: after i turns, the first i records have led to what the arrays hold.
-use Prim.Native.Nat.{ℕ, _-_, _/_, _≤_}
+use Prim.Native.Nat.{ℕ, _-_, _≤_}
 use native.Mathlib.Omega.{arith}
-use mathlib.Core.Path.{_≡_, refl, sym, ap, _∙_, subst}
+use mathlib.Core.Path.{sym, ap, _∙_, subst}
 use mathlib.Core.List.{List}
 use lib.ListN.{set, length-set}
 use borrow.Author.Needs.{needs}
 use Rattle.looking.specs.declared.Looked.{Looked}
 use Rattle.looking.specs.Refusals.{Run}
-use Rattle.looking.specs.Looked.{Arrays, arraysOf, Looking, looked}
+use Rattle.looking.specs.Looked.{Arrays, arraysOf}
 use Rattle.looking.specs.Seeing.{runOf, Saw, Roomy}
 use Rattle.looking.proofs.Refusing.{sized}
 use Rattle.looking.proofs.Scanned.{Under, under-start, under-more, looked-stop, looked-end, part-is, part-size}
