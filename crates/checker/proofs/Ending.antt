@@ -164,9 +164,9 @@ module _ (input : List ℕ) (a : Arrays) (n prefix : ℕ) (work out : List ℕ) 
         out-room = r .out-room;
       }
 
-  pub concluded : (k : ℕ) (order order′ work′ : List ℕ) (x : Answer) (out′ : List ℕ) → order′ ≡ over new order → work′ ≡ cleared work → Written (events input) out x out′
+  pub concluded : (order order′ work′ : List ℕ) (x : Answer) (out′ : List ℕ) → order′ ≡ over new order → work′ ≡ cleared work → Written (events input) out x out′
       → Concluded (events input) out work order x out′ work′ order′
-  concluded k order order′ work′ x out′ order-is work-is w = record {
+  concluded order order′ work′ x out′ order-is work-is w = record {
     written = w;
     cleared = work-is ∙ cleared-over work (r .long);
     all-named = order-is ∙ ap (λ l. over l order) named-are;

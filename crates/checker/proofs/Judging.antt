@@ -1,5 +1,5 @@
 -- Laws of the whole promise: a recording that is refused, and one that is not.
-use Prim.Native.Nat.{ℕ, zero, suc, _*_, _/_, _≤_}
+use Prim.Native.Nat.{ℕ, zero, suc, _*_, _/_, _≤_, min}
 use native.Mathlib.Omega.{arith}
 use mathlib.Core.Path.{_≡_, refl, sym, ap, ap₂, _∙_, subst}
 use mathlib.Core.Logic.{_≢_}
@@ -17,14 +17,15 @@ use Rattle.record.specs.Faults.{Check, check, firstFault}
 use Rattle.lists.specs.Lists.{each, over}
 use Rattle.trace.specs.Paths.{reaches}
 use Rattle.rows.specs.Bits.{begun}
-use Rattle.graph.specs.Transactions.{transactions, workSize, labelled}
+use Rattle.graph.specs.Transactions.{Labelled, transactions, workSize, labelled}
 use Rattle.graph.specs.Serial.{threadOf}
 use Rattle.graph.specs.Violation.{shortest}
 use Rattle.graph.specs.Named.{named}
-use Rattle.graph.specs.Held.{pastEnd, held}
+use Rattle.graph.specs.Held.{pastEnd, arraySize, eventsIn, held, shownOf}
 use Rattle.ancestors.specs.Ancestors.{Stands, Found}
 use Rattle.ancestors.proofs.Standing.{begun-stands}
-use Rattle.ancestors.proofs.Searching.{found-from}
+use Rattle.second.specs.Taken.{searchedAs, secondSearched}
+use Rattle.second.proofs.Right.{possible-search-right}
 use Rattle.looking.specs.declared.Looked.{Looked}
 use Rattle.looking.specs.Refusals.{inputChecks, refusedBy, events}
 use Rattle.looking.specs.Looked.{Arrays, Looking, looked}
@@ -202,3 +203,19 @@ module _ (input out work : List ℕ) (old : Arrays) (l : Looked) (a : Arrays) (f
 
         pub order-whole : order′ ≡ orderLeft input out work order
         order-whole = order-passed order order′ (c .all-named)
+
+-- ---- What either engine finds
+
+abbrev pub recordsIn : List ℕ → Arrays → List Labelled
+recordsIn input a = held (min (length input / 8) arraySize) (eventsIn (a .threads) (a .kinds) (a .targets)) (a .labels)
+
+module _ (input : List ℕ) (a : Arrays) (n : ℕ) (w : Whole input a n) (start : List ℕ) (stands : Stands (transactions (events input)) start []) where
+  shown-records : recordsIn input a ≡ labelled (map shownOf (events input))
+  shown-records =
+      let most : min (length input / 8) arraySize ≡ length input / 8 = omega (arith, w .most) in
+      ap (λ m. held m (eventsIn (a .threads) (a .kinds) (a .targets)) (a .labels)) most ∙ w .shown-are
+
+  pub found-second : (r : ℕ) (work : List ℕ) → searchedAs r work ≡ secondSearched start (recordsIn input a) → Found (events input) start r work
+  found-second r work is =
+      subst (λ s. Found (events input) start (s .prefix) (s .rows)) (sym is)
+      (possible-search-right (events input) (w .can-be) (w .in-range) (w .few) (recordsIn input a) shown-records start stands)
