@@ -2,7 +2,7 @@
 use Prim.Native.Nat.{ℕ, _<_, _≤_}
 use native.Mathlib.Omega.{arith}
 use mathlib.Core.Path.{_≡_, refl, sym, ap, ap₂, _∙_, subst}
-use mathlib.Core.Bool.{Bool, true, false, cond, _&&_, _||_, or-true, or-false, and-false}
+use mathlib.Core.Bool.{Bool, true, false, cond, _&&_, _||_, or-true, or-false, and-true, and-false}
 use mathlib.Core.List.{List, [], _∷_, _++_}
 use borrow.Author.Tests.{eq-eqb, ne-eqb}
 use lib.ListN.{length, getD, drop}
@@ -11,7 +11,7 @@ use Rattle.record.specs.declared.Event.{Event}
 use Rattle.lists.specs.Lists.{someOf}
 use Rattle.trace.specs.Paths.{hasEdge}
 use Rattle.lists.proofs.Tests.{by, by-same}
-use Rattle.lists.proofs.Lists.{some-cons, some-snoc, some-append}
+use Rattle.lists.proofs.Lists.{some-snoc}
 use Rattle.rows.specs.Bits.{has, marked, cleared}
 use Rattle.rows.proofs.Laws.{marked-same, marked-other, length-marked, rest-marked, length-cleared, cleared-none}
 use Rattle.graph.specs.Conflict.{conflict}
@@ -99,16 +99,12 @@ module _ (xs : List Labelled) (x : Labelled) (ys : List Labelled) (before w : Li
         let edge : Bool = hasEdge (edges xs) a b in
         let to : Bool = eqb (x .transaction) b in
         let from : Bool = eqb (y .transaction) a in
-        let now : new y ≡ from = ap (λ c. from && c) e ∙ and-right from in
+        let now : new y ≡ from = ap (λ c. from && c) e ∙ and-true from in
         marked-is w (y .transaction) (x .transaction) hy hx (omega (arith, p .size)) a b ha hb
         ∙ ap (λ c. c || (to && from)) (p .bits a b ha hb)
         ∙ gather edge to (someOf new ys) from
         ∙ sym (ap (λ c. edge || (to && c)) (some-snoc new ys y ∙ ap (λ c. someOf new ys || c) now));
   }
-    where
-      and-right : (b : Bool) → (b && true) ≡ b
-      and-right true = refl
-      and-right false = refl
 
   -- it makes none
   more-none : makes y x ≡ false → Partly xs x (ys ++ (y ∷ [])) before w

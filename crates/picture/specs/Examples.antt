@@ -8,13 +8,13 @@ use Rattle.record.specs.declared.Op.{Op}
 use Rattle.record.specs.declared.Op.the-variants.{Read, Write, Fork, Yield}
 use Rattle.record.specs.Faults as Faults
 use Rattle.record.specs.Record as Record
+use Rattle.record.specs.Answers.{Numbers}
 use Rattle.replay.specs.Machine as Machine
 use Rattle.lists.specs.Lists as Lists
 use Rattle.trace.specs.Paths as Paths
 use Rattle.graph.specs.Conflict as Conflict
 use Rattle.graph.specs.Transactions as Transactions
 use Rattle.graph.specs.Edges as Edges
-use Rattle.record.specs.Answers.{Numbers}
 use Rattle.looking.specs.Refusals as Refusals
 use Rattle.decimal.specs.Decimal as Decimal
 use Rattle.picture.specs.Picture as Pictures
