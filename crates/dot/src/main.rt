@@ -1,15 +1,15 @@
 // Reads a recording from standard input, at most 8,200 bytes of it, and prints the picture of its graph in the DOT language.
 // A refusal is the line `refused NUMBER RECORD`.
-use checker::Refusal;
 use libc::STDIN_FILENO;
 use libc::STDOUT_FILENO;
 use picture::Drawn;
+use record::Refusal;
 
 fn print_refusal(refusal: Refusal) {
     io::write_all(STDOUT_FILENO, b"refused ");
     io::print_decimal(STDOUT_FILENO, refusal.number as u64);
     io::write_all(STDOUT_FILENO, b" ");
-    io::print_decimal(STDOUT_FILENO, refusal.record as u64);
+    io::print_decimal(STDOUT_FILENO, refusal.place as u64);
     io::write_all(STDOUT_FILENO, b"\n");
 }
 

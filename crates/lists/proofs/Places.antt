@@ -1,15 +1,15 @@
--- Laws of places in a list: what stands there, what is stored there, and what is written over it.
+-- Laws of places in a list: what stands there, what is stored there, and what is written over it or at a place of it.
 use Prim.Native.Nat.{ℕ, zero, suc, pred, _+_, _-_, _<_, _≤_}
 use native.Mathlib.Omega.{arith}
 use native.Mathlib.Numerals.{add-one}
-use native.Mathlib.Nat.{lt-of-not-le}
-use mathlib.Core.Path.{_≡_, refl, sym, ap, _∙_}
+use native.Mathlib.Nat.{add-zero, zero-add, lt-of-not-le}
+use mathlib.Core.Path.{_≡_, refl, sym, ap, ap₂, _∙_}
 use mathlib.Core.Logic.{_≢_}
 use mathlib.Core.List.{List, [], _∷_, _++_, append-assoc, append-nil}
-use lib.ListN.{length, getD, set, take, drop, replicate, length-append, length-drop, drop-of-length-le, List·getD-eq-default}
-use lib.Seq.{take-all, take-suc, drop-cons, drop-drop, set-at, length-take-le}
+use lib.ListN.{length, getD, set, take, drop, replicate, length-append, length-drop, take-append-drop, drop-of-length-le, List·getD-eq-default}
+use lib.Seq.{take-all, take-suc, take-at, drop-cons, drop-drop, drop-append-add, set-at, set-split, length-take-le}
 use borrow.Rule.Slice.PartMut.{putMid}
-use Rattle.lists.specs.Lists.{over}
+use Rattle.lists.specs.Lists.{over, writtenAt}
 
 -- ---- entries
 
@@ -65,6 +65,53 @@ module _ {A : Type 0} where
       ∙ set-at new (getD old (length new) x) (drop (suc (length new)) old) x (length new) refl
       ∙ sym (append-assoc new (x ∷ []) (drop (suc (length new)) old))
       ∙ ap (λ k. (new ++ (x ∷ [])) ++ drop k old) (sym (length-append new (x ∷ []) ∙ add-one (length new)))
+
+  -- ---- written at a place
+
+  pub written-nothing : (l : List A) (n : ℕ) → writtenAt l n [] ≡ l
+  unfolding writtenAt
+  written-nothing l n = ap (λ k. take n l ++ drop k l) (add-zero n) ∙ take-append-drop n l
+
+  pub written-start : (l new : List A) → writtenAt l 0 new ≡ over new l
+  unfolding writtenAt over
+  written-start l new = ap (λ k. new ++ drop k l) (zero-add (length new))
+
+  -- a store
+  pub written-one : (l : List A) (n : ℕ) (x : A) → n < length l → set l n x ≡ writtenAt l n (x ∷ [])
+  unfolding writtenAt
+  written-one l n x h = set-split l n x h ∙ ap (λ k. take n l ++ (x ∷ drop k l)) (sym (add-one n))
+
+  pub length-written : (l : List A) (n : ℕ) (new : List A) → n + length new ≤ length l → length (writtenAt l n new) ≡ length l
+  unfolding writtenAt
+  length-written l n new h =
+      let t : length (take n l) ≡ n = length-take-le n l (omega arith) in
+      let d : length (drop (n + length new) l) ≡ length l - (n + length new) = length-drop (n + length new) l in
+      let a : length (new ++ drop (n + length new) l) ≡ length new + length (drop (n + length new) l) = length-append new (drop (n + length new) l) in
+      length-append (take n l) (new ++ drop (n + length new) l) ∙ (omega arith)
+
+  -- what is written after something is written with it
+  pub written-more : (l : List A) (n : ℕ) (new more : List A) → n ≤ length l
+      → writtenAt (writtenAt l n new) (n + length new) more ≡ writtenAt l n (new ++ more)
+  unfolding writtenAt
+  written-more l n new more h =
+      let front : List A = take n l ++ new in
+      let rest : List A = drop (n + length new) l in
+      let k : ℕ = n + length new in
+      let whole : writtenAt l n new ≡ front ++ rest = sym (append-assoc (take n l) new rest) in
+      let size : length front ≡ k = length-append (take n l) new ∙ ap (λ m. m + length new) (length-take-le n l h) in
+      let t : take k (writtenAt l n new) ≡ front = ap (take k) whole ∙ take-at front rest k size in
+      let sum : k + length more ≡ n + length (new ++ more) =
+      (let a : length (new ++ more) ≡ length new + length more = length-append new more in omega arith) in
+      let d : drop (k + length more) (writtenAt l n new) ≡ drop (n + length (new ++ more)) l =
+      ap (drop (k + length more)) whole
+      ∙ ap (λ m. drop (m + length more) (front ++ rest)) (sym size)
+      ∙ drop-append-add front rest (length more)
+      ∙ drop-drop (length more) k l
+      ∙ ap (λ m. drop m l) sum in
+      let last : List A = drop (n + length (new ++ more)) l in
+      ap₂ (λ (x y : List A). x ++ (more ++ y)) t d
+      ∙ append-assoc (take n l) new (more ++ last)
+      ∙ ap (λ x. take n l ++ x) (sym (append-assoc new more last))
 
 -- what a callee wrote over the front of the part from a on, said of the whole
 pub put-over : (b xs ys : List ℕ) (a : ℕ) → a ≤ length xs → ys ≡ over b (take (length xs - a) (drop a xs)) → putMid a (length xs - a) xs ys ≡ take a xs ++ b ++ drop (a + length b) xs

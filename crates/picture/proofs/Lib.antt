@@ -1,5 +1,4 @@
 pub mod Marks
-pub mod Counts
 pub mod Pieces
 pub mod Texts
 pub mod Endings

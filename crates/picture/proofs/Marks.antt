@@ -1,24 +1,52 @@
--- Laws of the rows that hold the edges: none, and one record more.
+-- Laws of the rows that hold the edges: two records, none, and one record more.
 use Prim.Native.Nat.{ℕ, _<_, _≤_}
 use native.Mathlib.Omega.{arith}
 use mathlib.Core.Path.{_≡_, refl, sym, ap, ap₂, _∙_, subst}
-use mathlib.Core.Bool.{Bool, true, false, cond, _&&_, _||_, or-true, or-false, and-false}
+use mathlib.Core.Bool.{Bool, true, false, cond, _&&_, _||_, or-true, or-false, and-true, and-false}
 use mathlib.Core.List.{List, [], _∷_, _++_}
 use borrow.Author.Tests.{eq-eqb, ne-eqb}
-use lib.ListN.{length, drop}
+use lib.ListN.{length, getD, drop}
 use lib.Dec.{eqb}
+use Rattle.record.specs.declared.Event.{Event}
 use Rattle.lists.specs.Lists.{someOf}
 use Rattle.trace.specs.Paths.{hasEdge}
 use Rattle.lists.proofs.Tests.{by, by-same}
-use Rattle.lists.proofs.Lists.{some-cons, some-snoc, some-append}
+use Rattle.lists.proofs.Lists.{some-snoc}
 use Rattle.rows.specs.Bits.{has, marked, cleared}
 use Rattle.rows.proofs.Laws.{marked-same, marked-other, length-marked, rest-marked, length-cleared, cleared-none}
+use Rattle.graph.specs.Conflict.{conflict}
 use Rattle.graph.specs.Transactions.{Labelled}
 use Rattle.graph.specs.Edges.{makes, edges}
-use Rattle.graph.proofs.Steps.{edges-snoc}
-use Rattle.picture.specs.Linking.{Links}
+use Rattle.graph.specs.Held.{shown, eventsIn, recordAt}
+use Rattle.graph.proofs.Held.{events-at}
+use Rattle.graph.proofs.Steps.{makes-own, makes-by, edges-snoc}
+use Rattle.picture.specs.Linking.{Links, linked}
 
--- no records, and all rows cleared
+-- ---- Two records that arrays hold
+
+module _ (threads kinds targets labels : List ℕ) where
+  -- record j, by its transaction, and by what is shown of it
+  abbrev at : ℕ → Labelled
+  at j = recordAt (eventsIn threads kinds targets) labels j
+
+  abbrev pub shownAt : ℕ → Event
+  shownAt j = shown (getD threads j 0) (getD kinds j 0) (getD targets j 0)
+
+  module _ (i k : ℕ) (w : List ℕ) where
+    -- of one transaction
+    pub linked-own : getD labels i 0 ≡ getD labels k 0 → w ≡ linked (at i) (at k) w
+    linked-own e = sym (ap (λ (c : Bool). cond c (marked w (getD labels i 0) (getD labels k 0)) w) (makes-own (at k) (at i) e))
+
+    -- of two, that conflict or don't
+    pub linked-by : i < 1024 → k < 1024 → (getD labels i 0 ≡ getD labels k 0 → ⊥) → (found is : Bool) → found ≡ conflict (shownAt i) (shownAt k) → found ≡ is
+        → cond is (marked w (getD labels i 0) (getD labels k 0)) w ≡ linked (at i) (at k) w
+    linked-by hi hk other found is c e =
+        sym (ap (λ (d : Bool). cond d (marked w (getD labels i 0) (getD labels k 0)) w)
+        (makes-by (at k) (at i) is other (sym e ∙ c ∙ sym (ap₂ conflict (events-at threads kinds targets i hi) (events-at threads kinds targets k hk)))))
+
+-- ---- No records
+
+-- all rows cleared
 pub links-none : (w : List ℕ) → 4096 ≤ length w → Links [] (cleared w)
 unfolding hasEdge edges someOf
 links-none w long = record { long = omega (arith, length-cleared w long); is = λ a b ha hb. cleared-none w long a b ha hb }
@@ -71,16 +99,12 @@ module _ (xs : List Labelled) (x : Labelled) (ys : List Labelled) (before w : Li
         let edge : Bool = hasEdge (edges xs) a b in
         let to : Bool = eqb (x .transaction) b in
         let from : Bool = eqb (y .transaction) a in
-        let now : new y ≡ from = ap (λ c. from && c) e ∙ and-right from in
+        let now : new y ≡ from = ap (λ c. from && c) e ∙ and-true from in
         marked-is w (y .transaction) (x .transaction) hy hx (omega (arith, p .size)) a b ha hb
         ∙ ap (λ c. c || (to && from)) (p .bits a b ha hb)
         ∙ gather edge to (someOf new ys) from
         ∙ sym (ap (λ c. edge || (to && c)) (some-snoc new ys y ∙ ap (λ c. someOf new ys || c) now));
   }
-    where
-      and-right : (b : Bool) → (b && true) ≡ b
-      and-right true = refl
-      and-right false = refl
 
   -- it makes none
   more-none : makes y x ≡ false → Partly xs x (ys ++ (y ∷ [])) before w
@@ -94,7 +118,7 @@ module _ (xs : List Labelled) (x : Labelled) (ys : List Labelled) (before w : Li
         ∙ sym (ap (λ c. hasEdge (edges xs) a b || (eqb (x .transaction) b && c)) (some-snoc new ys y ∙ ap (λ c. someOf new ys || c) now ∙ or-false (someOf new ys)));
   }
 
-  pub partly-more : (w′ : List ℕ) → w′ ≡ cond (makes y x) (marked w (y .transaction) (x .transaction)) w → Partly xs x (ys ++ (y ∷ [])) before w′
+  pub partly-more : (w′ : List ℕ) → w′ ≡ linked y x w → Partly xs x (ys ++ (y ∷ [])) before w′
   partly-more w′ q = by (makes y x)
       (λ e. subst (Partly xs x (ys ++ (y ∷ [])) before) (sym (q ∙ ap (λ c. cond c (marked w (y .transaction) (x .transaction)) w) e)) (more-marked e))
       (λ e. subst (Partly xs x (ys ++ (y ∷ [])) before) (sym (q ∙ ap (λ c. cond c (marked w (y .transaction) (x .transaction)) w) e)) (more-none e))

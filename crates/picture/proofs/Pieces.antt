@@ -1,13 +1,12 @@
 -- Laws of text put piece by piece: two pieces, and a loop that puts one after the other.
 use Prim.Native.Nat.{ℕ, _+_, _≤_, _<_}
 use native.Mathlib.Omega.{arith}
-use native.Mathlib.Numerals.{add-one}
 use mathlib.Core.Path.{_≡_, sym, ap, ap₂, _∙_, subst}
 use mathlib.Core.List.{List, [], _∷_, _++_}
-use lib.ListN.{length, getD, set, take, drop, length-append}
-use lib.Seq.{take-suc, take-all, length-take-le, set-split}
-use Rattle.checker.specs.Writing.{writtenAt}
-use Rattle.checker.proofs.Written.{written-nothing, written-more, length-written}
+use lib.ListN.{length, getD, set, take, length-append}
+use lib.Seq.{take-all, length-take-le}
+use Rattle.lists.specs.Lists.{writtenAt}
+use Rattle.lists.proofs.Places.{written-nothing, written-one, written-more, length-written, take-one-more}
 use Rattle.picture.specs.Putting.{Puts}
 
 pub puts-none : (at : ℕ) (l : List ℕ) → Puts [] at l l at
@@ -29,10 +28,6 @@ puts-as at r l m e p = subst (λ b. Puts b at l m r) e p
 
 -- ---- Bytes, one by one
 
-written-one : (v : List ℕ) (k c : ℕ) → k < length v → set v k c ≡ writtenAt v k (c ∷ [])
-unfolding writtenAt
-written-one v k c h = set-split v k c h ∙ ap (λ j. take k v ++ (c ∷ drop j v)) (sym (add-one k))
-
 -- one byte more
 pub put-byte : (bytes l : List ℕ) (at i : ℕ) → i < length bytes → at + length bytes ≤ length l
     → set (writtenAt l at (take i bytes)) (at + i) (getD bytes i 0) ≡ writtenAt l at (take (i + 1) bytes)
@@ -45,7 +40,7 @@ put-byte bytes l at i h room =
     written-one v (at + i) c (omega (arith, size))
     ∙ ap (λ k. writtenAt v (at + k) (c ∷ [])) (sym n)
     ∙ written-more l at front (c ∷ []) (omega arith)
-    ∙ ap (writtenAt l at) (sym (ap (λ k. take k bytes) (add-one i) ∙ take-suc bytes i 0 h))
+    ∙ ap (writtenAt l at) (sym (take-one-more bytes i 0 h))
 
 -- all of them
 pub put-bytes : (bytes l : List ℕ) (at i : ℕ) → length bytes ≤ i → writtenAt l at (take i bytes) ≡ writtenAt l at bytes

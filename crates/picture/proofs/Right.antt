@@ -14,17 +14,16 @@ use Rattle.record.specs.declared.Event.{Event}
 use Rattle.lists.specs.Lists.{keep, each, from, below, over}
 use Rattle.trace.specs.Paths.{Edge, hasEdge}
 use Rattle.lists.proofs.Tests.{by}
-use Rattle.lists.proofs.Lists.{Among, among-at, length-from, from-at, from-le, below-has, below-bound, keep-true, keep-false, keep-among, keep-has, count-all, among-map, among-unmap, append-among, among-second, at-among}
+use Rattle.lists.proofs.Lists.{Among, among-at, length-from, from-at, from-le, below-has, below-bound, keep-true, keep-false, keep-among, keep-has, count-all, among-map, among-unmap, append-among, among-second, at-among, each-each}
 use Rattle.trace.proofs.Reach.{Bounded, edge-below}
 use Rattle.graph.specs.Transactions.{none-yet, labelled, transactions}
 use Rattle.graph.specs.Edges.{edges}
 use Rattle.graph.proofs.Steps.{among-first}
 use Rattle.graph.proofs.Numbers.{sane-none, labels-lt, bounded-edges}
-use Rattle.checker.specs.Refusals.{events}
-use Rattle.checker.proofs.Written.{each-each}
+use Rattle.looking.specs.Refusals.{events}
 use Rattle.picture.specs.Picture.{opening, closing, transactionLine, edge, edgeLine, edgesFrom, edgesInOrder, drawing, picture}
-use Rattle.picture.specs.Drawn.{refusal, fitted, drawn}
-use Rattle.picture.specs.Meaning.{Earlier, Shows, roomForAll, Demanded}
+use Rattle.picture.specs.Drawn.{writtenAs, refusal, fitted, drawn}
+use Rattle.picture.specs.Meaning.{Earlier, Shows, roomForAll, Right}
 use Rattle.picture.proofs.Texts.{transaction-size, edge-size}
 use Rattle.picture.proofs.Endings.{refusal-few}
 
@@ -176,7 +175,7 @@ module _ (input out work : List ℕ) where
   unfolding drawn fitted over
   front-fit q e = rw (q, e, drawn, fitted) (take-append-seam text (drop (length text) out))
 
-  always-fits : roomForAll ≤ length out → refusal input work .number ≡ 0 → drawn input out work .answer ≡ record { kind = 0; first = length text; second = 0 }
+  always-fits : roomForAll ≤ length out → refusal input work .number ≡ 0 → drawn input out work .answer ≡ writtenAs (length text)
   unfolding drawn fitted picture
   always-fits room none =
       let few = refusal-few input work none in
@@ -184,8 +183,8 @@ module _ (input out work : List ℕ) where
       le-leb (length text) (length out) (omega (arith, room, drawing-most (transactions (events input)) (edges (labelled (events input))) few)) in
       rw (none, fits, drawn, fitted)
 
-  pub demanded : Demanded input out work
-  demanded = record { written = λ h. go h (refusal input work .number) refl; shown = picture-right (events input); fits = always-fits }
+  pub right : Right input out work
+  right = record { written = λ h. go h (refusal input work .number) refl; shown = picture-right (events input); fits = always-fits }
     where
       go : drawn input out work .answer .kind ≡ 0 → (n : ℕ) → refusal input work .number ≡ n → take (drawn input out work .answer .first) (drawn input out work .out) ≡ text
       go h zero q = by (leb (length text) (length out)) (λ e. front-fit q e) (λ e. absurd (omega (arith, h, kind-unfit q e)))

@@ -8,9 +8,8 @@ use lib.ListN.{length, length-append}
 use Rattle.lists.specs.Lists.{keep, each, from, below}
 use Rattle.trace.specs.Paths.{Edge, hasEdge}
 use Rattle.lists.proofs.Tests.{by}
-use Rattle.lists.proofs.Lists.{Among, keep-true, keep-false, keep-same, below-bound, from-step, from-none}
+use Rattle.lists.proofs.Lists.{Among, keep-true, keep-false, keep-same, below-bound, from-step, from-none, each-each, each-map}
 use Rattle.rows.specs.Bits.{has}
-use Rattle.checker.proofs.Written.{each-each, each-map}
 use Rattle.decimal.specs.Decimal.{decimal}
 use Rattle.decimal.proofs.Decimals.{size-three}
 use Rattle.picture.specs.Picture.{opening, arrow, lineEnd, closing, transactionLine, edge, edgeLine, edgesFrom, edgesInOrder, drawing}

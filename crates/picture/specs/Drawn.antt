@@ -4,30 +4,31 @@ use mathlib.Core.Bool.{true, false}
 use mathlib.Core.List.{List, [], _∷_, _++_}
 use lib.ListN.{length, replicate}
 use lib.Dec.{leb}
-use Rattle.record.specs.Record.{recordsOf}
-use Rattle.record.specs.Faults.{Check, check, firstFault}
 use Rattle.lists.specs.Lists.{over}
-use Rattle.graph.specs.Arranged.{workSize}
-use Rattle.checker.specs.Verdict.{Numbers}
-use Rattle.checker.specs.Refusals.{Fault, start, firstRefusal, events}
-use Rattle.checker.specs.Examined.{inputChecks}
+use Rattle.record.specs.declared.Refusal.{Refusal}
+use Rattle.record.specs.Faults.{Check, check}
+use Rattle.record.specs.Answers.{Numbers, refusedAs, Ending}
+use Rattle.graph.specs.Transactions.{workSize}
+use Rattle.looking.specs.Refusals.{inputChecks, refusedBy, events}
 use Rattle.picture.specs.declared.Drawn.{Drawn}
 use Rattle.picture.specs.declared.Drawn.the-variants.{Written, Refused}
 use Rattle.picture.specs.Picture.{picture}
 
 -- This paper's number and values for each case of an answer.  0 written: the number of bytes.  2 refused: number and record
+abbrev pub writtenAs : ℕ → Numbers
+writtenAs bytes = record { kind = 0; first = bytes; second = 0 }
+
 abbrev pub numbers : Drawn → Numbers
-numbers (Written bytes) = record { kind = 0; first = bytes; second = 0 }
-numbers (Refused r) = record { kind = 2; first = r .number; second = r .record }
+numbers (Written bytes) = writtenAs bytes
+numbers (Refused r) = refusedAs r
 
 -- 1, 2 and 4, tried in that order
 unfoldable pub sizeChecks : List ℕ → List ℕ → List Check
 sizeChecks input work = inputChecks input ++ (check 4 0 (leb workSize (length work)) ∷ [])
 
 -- then the first record with a fault
-unfoldable pub refusal : List ℕ → List ℕ → Fault
-refusal input work =
-    elim (firstFault (sizeChecks input work)) [ zero ↦ firstRefusal start 0 (recordsOf input) | suc n ↦ record { number = suc n; place = 0 } ]
+abbrev pub refusal : List ℕ → List ℕ → Refusal
+refusal input work = refusedBy (sizeChecks input work) input
 
 -- An answer, and the output at its end
 pub record Put : Type 0 where
@@ -38,28 +39,22 @@ pub record Put : Type 0 where
 unfoldable pub fitted : List ℕ → List ℕ → Put
 fitted text out =
     elim (leb (length text) (length out)) [
-      | true ↦ record { answer = record { kind = 0; first = length text; second = 0 }; out = over text out }
-      | false ↦ record { answer = record { kind = 2; first = 3; second = 0 }; out = out }
+      | true ↦ record { answer = writtenAs (length text); out = over text out }
+      | false ↦ record { answer = refusedAs (record { number = 3; place = 0 }); out = out }
     ]
-
--- The answer, the output and the work area at the end
-pub record Ending : Type 0 where
-  pub answer : Numbers
-  pub out : List ℕ
-  pub work : List ℕ
 
 -- Refused with another number than 3: output and work area keep their contents. Else the first 4,096 numbers of the work area are 0
 unfoldable pub drawn : List ℕ → List ℕ → List ℕ → Ending
 drawn input out work =
-    let no : Fault = refusal input work in
+    let no : Refusal = refusal input work in
     elim (no .number) [
       | zero ↦
           let p : Put = fitted (picture (events input)) out in
           record { answer = p .answer; out = p .out; work = over (replicate workSize 0) work }
-      | suc n ↦ record { answer = record { kind = 2; first = no .number; second = no .place }; out = out; work = work }
+      | suc n ↦ record { answer = refusedAs no; out = out; work = work }
     ]
 
 -- Everything above, opened at once, for a proof by computation: `unfolding opened`
 unfoldable pub opened : Unit {0}
-unfolding sizeChecks refusal fitted drawn
+unfolding sizeChecks fitted drawn
 opened = tt

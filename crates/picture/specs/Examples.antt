@@ -8,19 +8,17 @@ use Rattle.record.specs.declared.Op.{Op}
 use Rattle.record.specs.declared.Op.the-variants.{Read, Write, Fork, Yield}
 use Rattle.record.specs.Faults as Faults
 use Rattle.record.specs.Record as Record
+use Rattle.record.specs.Answers.{Numbers}
 use Rattle.replay.specs.Machine as Machine
 use Rattle.lists.specs.Lists as Lists
-use Rattle.lists.specs.Lists.{each, below}
 use Rattle.trace.specs.Paths as Paths
 use Rattle.graph.specs.Conflict as Conflict
 use Rattle.graph.specs.Transactions as Transactions
 use Rattle.graph.specs.Edges as Edges
-use Rattle.checker.specs.Refusals as Refusals
-use Rattle.checker.specs.Examined as Examined
-use Rattle.checker.specs.Verdict.{Numbers}
+use Rattle.looking.specs.Refusals as Refusals
 use Rattle.decimal.specs.Decimal as Decimal
 use Rattle.picture.specs.Picture as Pictures
-use Rattle.picture.specs.Picture.{transactionLine, picture}
+use Rattle.picture.specs.Picture.{edge, drawing, picture}
 use Rattle.picture.specs.Drawn as Whole
 use Rattle.picture.specs.Drawn.{drawn}
 
@@ -60,10 +58,11 @@ pub pictures : (picture [] ≡ between [])
 unfolding Lists.opened Paths.opened Conflict.opened Transactions.opened Edges.opened Decimal.opened Pictures.opened
 pictures = (refl, refl, refl, refl)
 
--- 10 and 11 come after 9, and not after 1
-pub by-number : each transactionLine (below 12)
-    ≡ node 0 ++ node 1 ++ node 2 ++ node 3 ++ node 4 ++ node 5 ++ node 6 ++ node 7 ++ node 8 ++ node 9 ++ (49 ∷ node 0) ++ (49 ∷ node 1)
-unfolding Lists.opened Decimal.opened Pictures.opened
+-- by number, and not as text goes: of twelve transactions 10 and 11 come after 9; of three edges 2 -> 9 comes before 2 -> 11, and both before 10 -> 2
+pub by-number : drawing 12 (edge 10 2 ∷ edge 2 11 ∷ edge 2 9 ∷ [])
+    ≡ between (node 0 ++ node 1 ++ node 2 ++ node 3 ++ node 4 ++ node 5 ++ node 6 ++ node 7 ++ node 8 ++ node 9 ++ (49 ∷ node 0) ++ (49 ∷ node 1)
+    ++ link 2 9 ++ (50 ∷ 32 ∷ 45 ∷ 62 ∷ 32 ∷ 49 ∷ node 1) ++ (49 ∷ link 0 2))
+unfolding Lists.opened Paths.opened Decimal.opened Pictures.opened
 by-number = refl
 
 -- ---- Whole answers
@@ -118,5 +117,5 @@ All [] = Unit {0}
 All (x ∷ xs) = Right x × All xs
 
 pub examples : All table
-unfolding Faults.opened Record.opened Machine.opened Lists.opened Paths.opened Conflict.opened Transactions.opened Edges.opened Refusals.opened Examined.opened Decimal.opened Pictures.opened Whole.opened
+unfolding Faults.opened Record.opened Machine.opened Lists.opened Paths.opened Conflict.opened Transactions.opened Edges.opened Refusals.opened Decimal.opened Pictures.opened Whole.opened
 examples = (refl, (refl, (refl, (refl, (refl, (refl, (refl, tt)))))))

@@ -1,4 +1,4 @@
--- What document 02, L5, demands of the picture, as one statement. Its proof is `demanded` in proofs/Right.
+-- What document 02, L5, demands of the picture, as one statement. Its proof is `right` in proofs/Right.
 use Prim.Native.Nat.{ℕ, _<_, _≤_}
 use mathlib.Core.Path.{_≡_}
 use mathlib.Core.Logic.{_↔_, _⊎_}
@@ -10,8 +10,8 @@ use Rattle.lists.specs.Lists.{each}
 use Rattle.trace.specs.Paths.{Edge, hasEdge}
 use Rattle.graph.specs.Transactions.{labelled, transactions}
 use Rattle.graph.specs.Edges.{edges}
-use Rattle.checker.specs.Refusals.{events}
-use Rattle.picture.specs.Drawn.{refusal, drawn}
+use Rattle.looking.specs.Refusals.{events}
+use Rattle.picture.specs.Drawn.{writtenAs, refusal, drawn}
 use Rattle.picture.specs.Picture.{opening, closing, transactionLine, edgeLine, edge, picture}
 
 -- by first and then second number
@@ -36,11 +36,11 @@ abbrev pub roomForAll : ℕ
 roomForAll = 3148300
 
 -- What is demanded of drawing
-pub record Demanded (input out work : List ℕ) : Type 0 where
+pub record Right (input out work : List ℕ) : Type 0 where
   -- where bytes are written, they are the picture of the recording's history, also where it is a violation
   pub written : drawn input out work .answer .kind ≡ 0 → take (drawn input out work .answer .first) (drawn input out work .out) ≡ picture (events input)
   -- which shows every transaction and every edge, each once and in order, and nothing else
   pub shown : Shows (events input)
   -- where there is room for any picture and the recording isn't refused, they are written: number 3 is never given
   pub fits : roomForAll ≤ length out → refusal input work .number ≡ 0
-      → drawn input out work .answer ≡ record { kind = 0; first = length (picture (events input)); second = 0 }
+      → drawn input out work .answer ≡ writtenAs (length (picture (events input)))

@@ -4,9 +4,8 @@ use mathlib.Core.Path.{_≡_}
 use mathlib.Core.Bool.{true, false}
 use mathlib.Core.List.{List, [], _++_}
 use lib.ListN.{length}
-use Rattle.lists.specs.Lists.{keep, each, below}
+use Rattle.lists.specs.Lists.{writtenAt, keep, each, below}
 use Rattle.rows.specs.Bits.{has}
-use Rattle.checker.specs.Writing.{writtenAt}
 use Rattle.picture.specs.Picture.{opening, closing, transactionLine, edge, edgeLine}
 
 -- Bytes put from a place on: the place after them, and what is left where they fit

@@ -2,10 +2,11 @@
 mod linking;
 mod putting;
 
-use checker::Refusal;
+use record::Refusal;
 ghost use mathlib.Core.Path.{_≡_};
 ghost use Rattle.record.specs.Faults.{firstFault};
-ghost use Rattle.picture.specs.Drawn.{numbers, sizeChecks, Ending, drawn};
+ghost use Rattle.record.specs.Answers.{Ending};
+ghost use Rattle.picture.specs.Drawn.{numbers, sizeChecks, drawn};
 
 // What drawing ends in: so many bytes written, or a refusal.
 pub enum Drawn {
@@ -17,7 +18,7 @@ pub enum Drawn {
 fn size_fault(input: &[u8], work: &[u64]) -> u8
     ensures { λ r. ⌜ r ≡ firstFault (sizeChecks (now (input .entry)) (now (work .entry))) ⌝ }
 {
-    let number = checker::input_fault(input);
+    let number = looking::input_fault(input);
     if number != 0 {
         return number;
     }
@@ -34,19 +35,20 @@ pub fn draw(input: &[u8], out: &mut [u8], work: &mut [u64]) -> Drawn
 {
     let number = size_fault(input, &*work);
     if number != 0 {
-        return Drawn::Refused(Refusal { number, record: 0 });
+        return Drawn::Refused(Refusal { number, place: 0 });
     }
+    let mut threads = [0u8; 1024];
+    let mut kinds = [0u8; 1024];
+    let mut targets = [0u8; 1024];
     let mut labels = [0u16; 1024];
-    let examined = checker::examine(input, &mut labels);
-    let refusal = examined.refusal;
+    let looked = looking::look(input, &mut threads, &mut kinds, &mut targets, &mut labels);
+    let refusal = looked.refusal;
     if refusal.number != 0 {
         return Drawn::Refused(refusal);
     }
-    let all = examined.all;
     let count = input.len() / 8;
-    let transactions = linking::transactions(&labels, count);
-    linking::link_all(work, all, &labels, count);
-    let answer = putting::put_fitting(&*work, transactions, out);
+    linking::link_all(work, &threads, &kinds, &targets, &labels, count);
+    let answer = putting::put_fitting(&*work, looked.transactions, out);
     rows::clear(work);
     answer
 }

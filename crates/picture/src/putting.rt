@@ -1,6 +1,6 @@
 // The text, put into an output piece by piece. What doesn't fit is counted and not put, so the length of the text is found by putting it nowhere.
 use crate::Drawn;
-use checker::Refusal;
+use record::Refusal;
 ghost use mathlib.Core.Path.{_≡_};
 ghost use Prim.Native.Nat.{_+_, _*_, _≤_, _<_};
 ghost use lib.ListN.{length};
@@ -131,7 +131,7 @@ pub fn put_fitting(work: &[u64], n: u16, out: &mut [u8]) -> Drawn
     if out.len() < bytes {
         return Drawn::Refused(Refusal {
             number: 3,
-            record: 0,
+            place: 0,
         });
     }
     put_text(work, n, out);

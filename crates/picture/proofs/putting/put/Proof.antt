@@ -4,8 +4,8 @@ use native.Mathlib.Omega.{arith}
 use mathlib.Core.Path.{_≡_, refl, sym, ap, _∙_}
 use mathlib.Core.List.{List}
 use lib.ListN.{length, getD, set, take, length-set}
-use Rattle.checker.specs.Writing.{writtenAt}
-use Rattle.checker.proofs.Written.{written-nothing}
+use Rattle.lists.specs.Lists.{writtenAt}
+use Rattle.lists.proofs.Places.{written-nothing}
 use Rattle.picture.proofs.Pieces.{put-byte, put-bytes}
 use Rattle.picture.proofs.putting.put.Statement.{statement}
 use Rattle.picture.proofs.putting.put.Tie as tie
