@@ -13,7 +13,8 @@ use Rattle.lists.proofs.Lists.{keep-true, keep-false, keep-append, some-cons, s
 use Rattle.lists.proofs.Places.{less-one}
 use Rattle.rows.specs.Bits.{has, joined}
 use Rattle.graph.specs.Transactions.{transactionLimit}
-use Rattle.ancestors.specs.Sources.{isOther, others, leads, gathered, meeting, someNew, spreadTo, closedRows, begunWith, codeOf, more, Joins}
+use Rattle.ancestors.specs.Others.{isOther, others}
+use Rattle.ancestors.specs.Sources.{leads, gathered, meeting, someNew, spreadTo, closedRows, begunWith, codeOf, more, Joins}
 use Rattle.ancestors.proofs.Gathering.{none-new}
 
 -- ---- what is held

@@ -1,3 +1,4 @@
 pub mod Ancestors
+pub mod Others
 pub mod Sources
 pub mod Search

@@ -3,19 +3,12 @@
 use Prim.Native.Nat.{ℕ, zero, suc, pred}
 use mathlib.Core.Path.{_≡_}
 use mathlib.Core.Bool.{Bool, false, cond, not, _&&_, _||_}
-use mathlib.Core.List.{List, [], _∷_, map}
+use mathlib.Core.List.{List, [], _∷_}
 use lib.Dec.{eqb, ltb}
-use Rattle.lists.specs.Lists.{someOf, keep}
+use Rattle.lists.specs.Lists.{someOf}
 use Rattle.rows.specs.Bits.{has, joined}
 use Rattle.graph.specs.Transactions.{transactionLimit}
-
--- An engine holds 0, or a transaction and 1. Whether that is a transaction other than a
-abbrev pub isOther : ℕ → ℕ → Bool
-isOther a c = not (eqb c 0) && not (eqb (pred c) a)
-
--- the transactions other than a, of some that are held
-unfoldable pub others : ℕ → List ℕ → List ℕ
-others a cs = map pred (keep (isOther a) cs)
+use Rattle.ancestors.specs.Others.{isOther}
 
 -- whether a reaches the transaction that is held, another than a
 abbrev pub leads : List ℕ → ℕ → ℕ → Bool
@@ -71,5 +64,5 @@ pub record Joins (before : List ℕ) (a : ℕ) (bs : List ℕ) (r : ℕ) (after 
 
 -- Everything above, opened at once, for a proof by computation: `unfolding opened`
 unfoldable pub opened : Unit {0}
-unfolding others gathered meeting spreadTo closedRows looked begunWith
+unfolding gathered meeting spreadTo closedRows looked begunWith
 opened = tt

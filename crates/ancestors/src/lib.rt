@@ -2,7 +2,8 @@
 // A source is a transaction from which the record makes an edge into its own transaction a.
 ghost use mathlib.Core.Path.{_≡_};
 ghost use mathlib.Core.List.{[], _∷_};
-ghost use Rattle.ancestors.specs.Sources.{isOther, others, spreadTo, looked, begunWith, Joins};
+ghost use Rattle.ancestors.specs.Others.{isOther, others};
+ghost use Rattle.ancestors.specs.Sources.{spreadTo, looked, begunWith, Joins};
 ghost use Rattle.ancestors.specs.Sources as Sources;
 
 // Whether what is held is a transaction other than a.
