@@ -9,7 +9,7 @@ use borrow.Author.Tests.{eq-eqb, ne-eqb, lt-ltb, le-ltb}
 use lib.Dec.{T, eqb, ltb}
 use Rattle.lists.specs.Lists.{someOf, keep}
 use Rattle.lists.proofs.Tests.{by, T-of, or-left, or-right}
-use Rattle.lists.proofs.Lists.{keep-true, keep-false, some-cons, some-append}
+use Rattle.lists.proofs.Lists.{keep-true, keep-false, keep-append, some-cons, some-append, map-append}
 use Rattle.lists.proofs.Places.{less-one}
 use Rattle.rows.specs.Bits.{has, joined}
 use Rattle.graph.specs.Transactions.{transactionLimit}
@@ -37,10 +37,8 @@ unfolding others keep
 others-none a = refl
 
 pub others-append : (a : ℕ) (cs ds : List ℕ) → others a (cs ++ ds) ≡ others a cs ++ others a ds
-others-append a [] ds = ap (λ l. l ++ others a ds) (sym (others-none a))
-others-append a (c ∷ cs) ds = by (isOther a c)
-    (λ e. others-true a c (cs ++ ds) e ∙ ap (λ l. pred c ∷ l) (others-append a cs ds) ∙ ap (λ l. l ++ others a ds) (sym (others-true a c cs e)))
-    (λ e. others-false a c (cs ++ ds) e ∙ others-append a cs ds ∙ ap (λ l. l ++ others a ds) (sym (others-false a c cs e)))
+unfolding others
+others-append a cs ds = ap (map pred) (keep-append (isOther a) cs ds) ∙ map-append pred (keep (isOther a) cs) (keep (isOther a) ds)
 
 -- some of them that passes a test
 pub some-other : (p : ℕ → Bool) (a : ℕ) (cs : List ℕ) → someOf p (others a cs) ≡ someOf (λ c. isOther a c && p (pred c)) cs

@@ -1,0 +1,4 @@
+pub mod Right
+pub mod Pairs
+pub mod Seeking
+pub mod Examples
