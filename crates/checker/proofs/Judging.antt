@@ -24,12 +24,15 @@ use Rattle.graph.specs.Named.{named}
 use Rattle.graph.specs.Held.{pastEnd, arraySize, eventsIn, held, shownOf}
 use Rattle.ancestors.specs.Ancestors.{Stands, Found}
 use Rattle.ancestors.proofs.Standing.{begun-stands}
+use Rattle.ancestors.specs.Search.{Searched, searched}
+use Rattle.plain.specs.Plain.{sources, next}
+use Rattle.plain.proofs.Right.{shown-right}
 use Rattle.second.specs.Taken.{searchedAs, secondSearched}
 use Rattle.second.proofs.Right.{possible-search-right}
 use Rattle.looking.specs.declared.Looked.{Looked}
 use Rattle.looking.specs.Refusals.{inputChecks, refusedBy, events}
 use Rattle.looking.specs.Looked.{Arrays, Looking, looked}
-use Rattle.looking.proofs.Refusing.{size-refused, inputs-first, inputs-next, inputs-passed, more-passed}
+use Rattle.looking.proofs.Refusing.{size-refused, sizes-passed, inputs-first, inputs-next, inputs-passed, more-passed}
 use Rattle.looking.proofs.Laws.{Passed, passed, Noted, looked-refusal, looked-noted}
 use Rattle.checker.specs.declared.Answer.{Answer}
 use Rattle.checker.specs.declared.Answer.the-variants.{Refused}
@@ -67,9 +70,14 @@ module _ (input out work : List ℕ) where
   unfolding arraysLeft
   arrays-kept old n h = rw (h, arraysLeft)
 
-  arrays-looked : (old : Arrays) → firstFault (sizeChecks input out work) ≡ 0 → arraysLeft input out work old ≡ looked input old .arrays
+  pub arrays-looked : (old : Arrays) → firstFault (sizeChecks input out work) ≡ 0 → arraysLeft input out work old ≡ looked input old .arrays
   unfolding arraysLeft
   arrays-looked old h = rw (h, arraysLeft)
+
+  -- a recording that isn't refused: its sizes, and what looking finds
+  pub sizes-of : refusal input out work .number ≡ 0 → firstFault (sizeChecks input out work) ≡ 0
+  unfolding refusal
+  sizes-of fine = sizes-passed (sizeChecks input out work) input fine
 
   -- a size is refused: nothing changes
   pub looked-sizes : (old : Arrays) (n : ℕ) → n ≡ firstFault (sizeChecks input out work) → n ≢ 0
@@ -98,6 +106,9 @@ module _ (input out work : List ℕ) where
     refused-alike : refusal input out work ≡ refusedBy (inputChecks input) input
     unfolding refusal sizeChecks
     refused-alike = more-passed input more fine
+
+    pub looked-none : refusal input out work .number ≡ 0 → (old : Arrays) → looked input old .refusal .number ≡ 0
+    looked-none none old = ap (λ r. r .number) (sym (refused-alike ∙ looked-refusal input old (looked input old) refl)) ∙ none
 
     pub looked-records : (old : Arrays) (l : Looked) (a : Arrays) → _≡_ {A = Looking} (record { refusal = l .refusal; transactions = l .transactions; arrays = a }) (looked input old)
         → LookedAt input out work old l a
@@ -219,3 +230,9 @@ module _ (input : List ℕ) (a : Arrays) (n : ℕ) (w : Whole input a n) (start 
   found-second r work is =
       subst (λ s. Found (events input) start (s .prefix) (s .rows)) (sym is)
       (possible-search-right (events input) (w .can-be) (w .in-range) (w .few) (recordsIn input a) shown-records start stands)
+
+  pub found-plain : (r : ℕ) (work : List ℕ) → _≡_ {A = Searched} (record { prefix = r; rows = work }) (searched sources next [] start (recordsIn input a))
+      → Found (events input) start r work
+  found-plain r work is =
+      subst (λ s. Found (events input) start (s .prefix) (s .rows)) (sym (is ∙ ap (searched sources next [] start) shown-records))
+      (shown-right (events input) (w .few) start stands)

@@ -114,6 +114,53 @@ pub fn judge(input: &[u8], out: &mut [u8], work: &mut [u64]) -> Answer
     )
 }
 
+// The same by the plain engine.
+pub fn judge_plain(input: &[u8], out: &mut [u8], work: &mut [u64]) -> Answer
+    ensures { λ r. ⌜ _≡_ {A = Ending} (record { answer = numbers r; out = now (out .exit); work = now (work .exit) })
+        (judged (now (input .entry)) (now (out .entry)) (now (work .entry))) ⌝ }
+{
+    let mut threads = [0u8; 1024];
+    let mut kinds = [0u8; 1024];
+    let mut targets = [0u8; 1024];
+    let mut labels = [0u16; 1024];
+    let mut order = [0u16; 512];
+    let looked = look(
+        input,
+        &*out,
+        &*work,
+        &mut threads,
+        &mut kinds,
+        &mut targets,
+        &mut labels,
+    );
+    let refusal = looked.refusal;
+    if refusal.number != 0 {
+        return Answer::Refused(refusal);
+    }
+    let n = looked.transactions;
+    rows::begin(work, n);
+    let prefix = plain::search(
+        &threads,
+        &kinds,
+        &targets,
+        &labels,
+        input.len() / 8,
+        work,
+    );
+    concluding::conclude(
+        input,
+        &threads,
+        &kinds,
+        &targets,
+        &labels,
+        n,
+        prefix,
+        &mut order,
+        out,
+        work,
+    )
+}
+
 // Judges a recording, and tells each transaction that the answer names: three numbers, in serial order or cycle order.
 pub fn report(input: &[u8], out: &mut [u8], work: &mut [u64], lines: &mut [u16; 1536]) -> Answer
     ensures { λ r. ⌜ (_≡_ {A = Ending} (record { answer = numbers r; out = now (out .exit); work = now (work .exit) })

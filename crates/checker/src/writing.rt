@@ -111,6 +111,13 @@ pub fn write_cycle(cycle: &[u16], out: &mut [u8])
     }
 }
 
+// A byte as a number of two.
+fn wide(byte: u8) -> u16
+    ensures { λ r. ⌜ r ≡ byte ⌝ }
+{
+    byte as u16
+}
+
 // Writes a line for each transaction of `order`: its number, its thread, its first record.
 pub fn write_lines(
     threads: &[u8; 1024],
@@ -132,7 +139,7 @@ pub fn write_lines(
         let mut thread = 0;
         let mut first = 0;
         if i < 1024 {
-            thread = threads[i as usize] as u16;
+            thread = wide(threads[i as usize]);
             first = i;
         }
         lines[3 * k] = a;

@@ -184,6 +184,10 @@ module _ (es : List Event) (most : length es ≤ 1024) (old : Arrays) where
           ∙ sym (map-at (λ (x : Labelled). labelledAs (x .transaction) (shownOf (x .event))) (labelled es) i blank blank (inside es i h))
           ∙ ap (λ l. getD l i blank) (sym (labelled-alike shownOf shown-alike es))
 
+  noted-threads : (i : ℕ) → i < length es → getD (here .threads) i 0 ≡ getD es i pastEnd .thread
+  unfolding noted
+  noted-threads i h = property-at es i h (λ e. e .thread) (old .threads)
+
   -- and with their own events
   noted-owned : held (length es) es (here .labels) ≡ labelled es
   noted-owned = ext-getD blank (held (length es) es (here .labels)) (labelled es)
@@ -200,6 +204,7 @@ module _ (es : List Event) (most : length es ≤ 1024) (old : Arrays) where
 pub record Noted (input : List ℕ) (a : Arrays) (n : ℕ) : Type 0 where
   pub labelled-are : held (length input / 8) (eventsIn (a .threads) (a .kinds) (a .targets)) (a .labels) ≡ labelled (map shownOf (events input))
   pub owned-are : held (length input / 8) (events input) (a .labels) ≡ labelled (events input)
+  pub threads-are : (i : ℕ) → i < length input / 8 → getD (a .threads) i 0 ≡ getD (events input) i pastEnd .thread
   pub few : Few (length input / 8) (a .labels)
   pub counted : n ≡ transactions (events input)
 
@@ -223,6 +228,7 @@ module _ (input : List ℕ) (old : Arrays) (r : Looking) (is : r ≡ looked inpu
             (subst (λ k. held k (all es most old) (noted es old .labels) ≡ labelled (map shownOf es)) size (noted-held es most old));
         owned-are = subst (λ a. held (length input / 8) es (a .labels) ≡ labelled es) arrays-are
             (subst (λ k. held k es (noted es old .labels) ≡ labelled es) size (noted-owned es most old));
+        threads-are = λ i h. subst (λ a. getD (a .threads) i 0 ≡ getD es i pastEnd .thread) arrays-are (noted-threads es most old i (omega (arith, size)));
         few = subst (λ a. Few (length input / 8) (a .labels)) arrays-are (subst (λ k. Few k (noted es old .labels)) size (noted-few es most old (p .few)));
         counted = ap (λ x. x .transactions) is ∙ ap transactions all-sound;
       }
