@@ -113,7 +113,7 @@ module _ (input labels order : List ℕ) (k prefix : ℕ) (out : List ℕ) (r : 
           counted = r .count-is;
         }
 
-over-long : (new old : List ℕ) → length new ≤ length (over new old)
+pub over-long : (new old : List ℕ) → length new ≤ length (over new old)
 unfolding over
 over-long new old = omega (arith, length-append new (drop (length new) old))
 

@@ -36,7 +36,7 @@ use Rattle.checker.specs.Writing.{noRecord, firstFrom, lineOf}
 use Rattle.checker.specs.Concluded.{namedIn}
 use Rattle.checker.proofs.Judging.{left, arrays-looked, looked-none, sizes-of}
 use Rattle.checker.proofs.Demand3.{passed, is-cooperable, is-violation, refused-keeps}
-use Rattle.checker.proofs.Ending.{named-serial, named-cycle}
+use Rattle.checker.proofs.Ending.{named-serial, named-cycle, over-long}
 use Rattle.checker.proofs.Linking.{Sought, begun, first-low}
 
 -- one number is below another, or not
@@ -82,6 +82,12 @@ module _ (input out work : List ℕ) (fine : refusal input out work .number ≡ 
 
   pub left-named : (order order′ : List ℕ) → order′ ≡ orderLeft input out work order → (k : ℕ) → k ≡ length (named es (shortest es)) → take k order′ ≡ named es (shortest es)
   left-named order order′ is k count = ap₂ take count (is ∙ order-named order) ∙ over-front (named es (shortest es)) order
+
+  pub left-long : (order order′ : List ℕ) → order′ ≡ orderLeft input out work order → length (named es (shortest es)) ≤ length order′
+  left-long order order′ is = omega (arith, ap length (is ∙ order-named order), over-long (named es (shortest es)) order)
+
+  pub left-size : (order order′ : List ℕ) → order′ ≡ orderLeft input out work order → (k : ℕ) → k ≡ length (named es (shortest es)) → k ≡ length (take k order′)
+  left-size order order′ is k count = count ∙ ap length (sym (left-named order order′ is k count))
 
   -- each line, by the arrays
   pub line-is : (a : Arrays) (n : ℕ) → Noted input a n → (t : ℕ) → lineOf (length input / 8) (a .threads) (a .labels) t ≡ Report.line es t

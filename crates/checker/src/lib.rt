@@ -89,7 +89,18 @@ pub fn judge_into(
     let n = looked.transactions;
     rows::begin(work, n);
     let prefix = second::search(threads, kinds, targets, labels, input.len() / 8, work);
-    concluding::conclude(input, threads, kinds, targets, labels, n, prefix, order, out, work)
+    concluding::conclude(
+        input,
+        threads,
+        kinds,
+        targets,
+        labels,
+        n,
+        prefix,
+        order,
+        out,
+        work,
+    )
 }
 
 // Judges a recording: the answer, and the output and the work area at the end.
@@ -139,14 +150,7 @@ pub fn judge_plain(input: &[u8], out: &mut [u8], work: &mut [u64]) -> Answer
     }
     let n = looked.transactions;
     rows::begin(work, n);
-    let prefix = plain::search(
-        &threads,
-        &kinds,
-        &targets,
-        &labels,
-        input.len() / 8,
-        work,
-    );
+    let prefix = plain::search(&threads, &kinds, &targets, &labels, input.len() / 8, work);
     concluding::conclude(
         input,
         &threads,
@@ -186,12 +190,6 @@ pub fn report(input: &[u8], out: &mut [u8], work: &mut [u64], lines: &mut [u16; 
     if named == 0 {
         return answer;
     }
-    writing::write_lines(
-        &threads,
-        &labels,
-        input.len() / 8,
-        &order[..named],
-        lines,
-    );
+    writing::write_lines(&threads, &labels, input.len() / 8, &order[..named], lines);
     answer
 }

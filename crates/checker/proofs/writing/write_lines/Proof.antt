@@ -42,7 +42,6 @@ room c =
     going-room f (a .order .now) (a .lines .now) (at .lines) (3 * at .k) (at .k) (fits c) (omega arith) (at .inv .1) in
     omega (arith, r, length-line (a .count) (now (a .threads)) (now (a .labels)) (getD (a .order .now) (at .k) 0))
 
-
 slice-aggregate-link : tie.Need-slice-aggregate-link Inv-loop μ-loop
 slice-aggregate-link c = search needs
 
