@@ -1,4 +1,4 @@
--- The examples P1 to P11 of document 01, as one table, proved of the definitions by computing them.
+-- The examples P1 to P11 of document 01, and one of its slips, as one table, proved of the definitions by computing them.
 use Prim.Native.Nat.{ℕ}
 use mathlib.Core.Path.{_≡_, refl}
 use mathlib.Core.List.{List, [], _∷_, _++_}
@@ -128,6 +128,8 @@ table =
     ∷ cooperable (read 0 0 7 ∷ []) 1 1 (read 0 0 7 ∷ []) 72
     -- P11
     ∷ refused (acquire 0 0 ∷ acquire 0 0 ∷ []) 10 1
+    -- P3 with an impossible record behind the violation
+    ∷ refused (fork 0 1 ∷ read 0 0 0 ∷ write 1 0 1 ∷ write 0 0 1 ∷ read 0 0 7 ∷ []) 12 4
     ∷ []
 
 -- the definitions give what a row says
@@ -140,4 +142,4 @@ All P (x ∷ xs) = P x × All P xs
 
 pub examples : All Right table
 unfolding Faults.opened Record.opened Machine.opened Lists.opened Paths.opened Order.opened Conflict.opened Transactions.opened Edges.opened Serial.opened Violations.opened Verdicts.opened Refusals.opened Whole.opened
-examples = (refl, (refl, (refl, (refl, (refl, (refl, (refl, (refl, (refl, (refl, (refl, tt)))))))))))
+examples = (refl, (refl, (refl, (refl, (refl, (refl, (refl, (refl, (refl, (refl, (refl, (refl, tt))))))))))))

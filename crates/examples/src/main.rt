@@ -12,7 +12,7 @@ fn run(name: &[u8], input: &[u8], n: usize) {
         return;
     }
     printing::print_word(name);
-    match fast::judge(&input[..n], &mut out, &mut work) {
+    match checker::judge(&input[..n], &mut out, &mut work) {
         Answer::Cooperable {
             records,
             transactions,
@@ -23,7 +23,7 @@ fn run(name: &[u8], input: &[u8], n: usize) {
             printing::print_answer(b"violation", record, length);
         }
         Answer::Refused(refusal) => {
-            printing::print_answer(b"refused", refusal.number as usize, refusal.record);
+            printing::print_answer(b"refused", refusal.number as usize, refusal.place);
         }
     }
     printing::print_out(&out);

@@ -47,7 +47,7 @@ fn main() {
     let mut work = [0u64; 4096];
     let mut lines = [0u16; 1536];
     let n = io::read_full(STDIN_FILENO, &mut input);
-    match fast::report(&input[..n], &mut out, &mut work, &mut lines) {
+    match checker::report(&input[..n], &mut out, &mut work, &mut lines) {
         Answer::Cooperable {
             records,
             transactions,
@@ -60,7 +60,7 @@ fn main() {
             print_lines(&lines, length);
         }
         Answer::Refused(refusal) => {
-            print_first(b"refused", refusal.number as usize, refusal.record);
+            print_first(b"refused", refusal.number as usize, refusal.place);
         }
     }
 }

@@ -86,7 +86,7 @@ fn main() {
             save_named(&out, bytes);
         }
         Proposed::Refused(refusal) => {
-            print_first(b"refused", refusal.number as usize, refusal.record);
+            print_first(b"refused", refusal.number as usize, refusal.place);
         }
     }
 }

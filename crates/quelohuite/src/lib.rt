@@ -41,7 +41,7 @@ fn in_numbers(a: Answer) -> Told
         Answer::Refused(refusal) => Told {
             kind: 2,
             first: refusal.number as u64,
-            second: refusal.record as u64,
+            second: refusal.place as u64,
         },
     }
 }
@@ -106,7 +106,7 @@ fn in_five(told: reasons::Told) -> ToldWhy
         }
         reasons::Told::NoSuchEdge => without_reason(1, 0, 0),
         reasons::Told::Refused(refusal) => {
-            without_reason(2, refusal.number as u64, refusal.record as u64)
+            without_reason(2, refusal.number as u64, refusal.place as u64)
         }
     }
 }
@@ -139,7 +139,7 @@ fn drawn_in_numbers(d: Drawn) -> Told
         Drawn::Refused(refusal) => Told {
             kind: 2,
             first: refusal.number as u64,
-            second: refusal.record as u64,
+            second: refusal.place as u64,
         },
     }
 }
@@ -167,7 +167,7 @@ fn proposed_in_numbers(p: Proposed) -> Told
         Proposed::Refused(refusal) => Told {
             kind: 2,
             first: refusal.number as u64,
-            second: refusal.record as u64,
+            second: refusal.place as u64,
         },
     }
 }

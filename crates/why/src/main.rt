@@ -81,7 +81,7 @@ fn main() {
             print_lines(&lines, length);
         }
         Answer::Refused(refusal) => {
-            print_first(b"refused", refusal.number as usize, refusal.record);
+            print_first(b"refused", refusal.number as usize, refusal.place);
         }
     }
 }
