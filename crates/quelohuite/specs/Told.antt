@@ -2,7 +2,7 @@
 use Prim.Native.Nat.{ℕ}
 use mathlib.Core.List.{List, [], _∷_}
 use lib.ListN.{getD}
-use Rattle.checker.specs.Verdict.{Numbers}
+use Rattle.record.specs.Answers.{Numbers}
 use Rattle.reasons.specs.Why as Why
 use Rattle.quelohuite.specs.declared.Told.{Told}
 use Rattle.quelohuite.specs.declared.ToldWhy.{ToldWhy}

@@ -1,4 +1,4 @@
-// The checker for C and Rust: exported functions over `fast::judge`, `checker::judge`, `reasons::why`,
+// The checker for C and Rust: exported functions over `checker::judge`, `checker::judge_plain`, `reasons::why`,
 // `picture::draw` and `proposal::propose`, each with its whole promise.
 use checker::Answer;
 use picture::Drawn;
@@ -6,7 +6,8 @@ use proposal::Proposed;
 ghost use mathlib.Core.Path.{_≡_};
 ghost use mathlib.Core.List.{[], _∷_};
 ghost use Rattle.checker.specs.Verdict.{numbers};
-ghost use Rattle.checker.specs.Judged.{Judged, judged};
+ghost use Rattle.record.specs.Answers.{Ending};
+ghost use Rattle.checker.specs.Judged.{judged};
 ghost use Rattle.reasons.specs.Why as Why;
 ghost use Rattle.picture.specs.Drawn as Drawing;
 ghost use Rattle.proposal.specs.Proposed as Proposing;
@@ -49,20 +50,20 @@ fn in_numbers(a: Answer) -> Told
 // Judges a recording by the second engine: the answer in numbers, and the output and the work area at the end.
 #[no_mangle]
 pub extern "C" fn quelohuite_judge(input: &[u8], out: &mut [u8], work: &mut [u64]) -> Told
-    ensures { λ r. ⌜ _≡_ {A = Judged} (record { answer = told r; out = now (out .exit); work = now (work .exit) })
+    ensures { λ r. ⌜ _≡_ {A = Ending} (record { answer = told r; out = now (out .exit); work = now (work .exit) })
         (judged (now (input .entry)) (now (out .entry)) (now (work .entry))) ⌝ }
 {
-    let answer = fast::judge(input, out, work);
+    let answer = checker::judge(input, out, work);
     in_numbers(answer)
 }
 
 // The same by the plain engine, to be held against it.
 #[no_mangle]
 pub extern "C" fn quelohuite_judge_plain(input: &[u8], out: &mut [u8], work: &mut [u64]) -> Told
-    ensures { λ r. ⌜ _≡_ {A = Judged} (record { answer = told r; out = now (out .exit); work = now (work .exit) })
+    ensures { λ r. ⌜ _≡_ {A = Ending} (record { answer = told r; out = now (out .exit); work = now (work .exit) })
         (judged (now (input .entry)) (now (out .entry)) (now (work .entry))) ⌝ }
 {
-    let answer = checker::judge(input, out, work);
+    let answer = checker::judge_plain(input, out, work);
     in_numbers(answer)
 }
 
@@ -147,7 +148,7 @@ fn drawn_in_numbers(d: Drawn) -> Told
 // Draws the graph of a recording: the answer in numbers, and the output and the work area at the end.
 #[no_mangle]
 pub extern "C" fn quelohuite_dot(input: &[u8], out: &mut [u8], work: &mut [u64]) -> Told
-    ensures { λ r. ⌜ _≡_ {A = Drawing.Ending} (record { answer = told r; out = now (out .exit); work = now (work .exit) })
+    ensures { λ r. ⌜ _≡_ {A = Ending} (record { answer = told r; out = now (out .exit); work = now (work .exit) })
         (Drawing.drawn (now (input .entry)) (now (out .entry)) (now (work .entry))) ⌝ }
 {
     let drawn = picture::draw(input, out, work);
@@ -175,7 +176,7 @@ fn proposed_in_numbers(p: Proposed) -> Told
 // Proposes yields for a recording: the answer in numbers, and the output and the work area at the end.
 #[no_mangle]
 pub extern "C" fn quelohuite_propose(input: &[u8], out: &mut [u8], work: &mut [u64]) -> Told
-    ensures { λ r. ⌜ _≡_ {A = Proposing.Ending} (record { answer = told r; out = now (out .exit); work = now (work .exit) })
+    ensures { λ r. ⌜ _≡_ {A = Ending} (record { answer = told r; out = now (out .exit); work = now (work .exit) })
         (Proposing.proposed (now (input .entry)) (now (out .entry)) (now (work .entry))) ⌝ }
 {
     let proposed = proposal::propose(input, out, work);
