@@ -6,3 +6,4 @@ pub mod Examples
 pub mod Left
 pub mod Writing
 pub mod Concluded
+pub mod Meaning
