@@ -2,14 +2,17 @@
 use Prim.Native.Nat.{ℕ, zero, suc, _^_, _<_, _≤_}
 use native.Mathlib.Omega.{arith}
 use mathlib.Core.Path.{_≡_, refl, sym, ap, _∙_, subst}
-use mathlib.Core.Bool.{true}
-use mathlib.Core.List.{List, [], _∷_}
+use mathlib.Core.List.{List}
+use mathlib.Core.Logic.{_≢_}
+use lib.Dec.{T}
 use lib.ListN.{length, getD, take}
 use Rattle.record.specs.declared.Event.{Event}
-use Rattle.lists.proofs.Lists.{Among, among-take, earliest}
-use Rattle.trace.specs.Paths.{Edge, reaches}
+use Rattle.lists.proofs.Tests.{T-is}
+use Rattle.lists.proofs.Lists.{Among, at-among, among-take, earliest}
+use Rattle.trace.specs.Paths.{Edge, hasEdge, reaches}
 use Rattle.trace.proofs.Reach.{edge-below}
 use Rattle.graph.specs.Transactions.{Labelled, none-yet, labelled, transactions, transactionLimit, workSize}
+use Rattle.rows.specs.Bits.{has}
 use Rattle.graph.specs.Edges.{edges}
 use Rattle.graph.specs.Serial.{threadOf, serialOrder}
 use Rattle.graph.specs.Violation.{edgesUpTo, cyclicUpTo, shortest, transactionAt, walk, cycleOf}
@@ -19,23 +22,14 @@ use Rattle.graph.proofs.Round.{blank, number-at, labelled-length}
 use Rattle.graph.proofs.Ends.{has-pair}
 use Rattle.graph.proofs.Demand3.{whole}
 use Rattle.ancestors.specs.Ancestors.{Found}
-use Rattle.naming.specs.Naming.{above, orderBy, cycleBy, within, namedBy}
-use Rattle.naming.proofs.Fits.{within-all, named-order, named-cycle}
+use Rattle.naming.specs.Naming.{above, orderBy, cycleBy, namedBy}
+use Rattle.naming.proofs.Fits.{cycle-goes, named-order, named-cycle}
 use Rattle.naming.proofs.Picked.{above-threads}
-use Rattle.naming.proofs.Followed.{walk-right}
+use Rattle.naming.proofs.Followed.{own-leads, walk-right}
 use Rattle.naming.proofs.Taken.{Given, order-is}
-
-at-among : (k : ℕ) (xs : List Labelled) → k < length xs → Among (getD xs k blank) xs
-at-among k [] h = absurd (omega arith)
-at-among zero (x ∷ xs) h = Among.top
-at-among (suc k) (x ∷ xs) h = Among.deeper (at-among k xs (omega arith))
 
 module _ (es : List Event) (few : transactions es ≤ transactionLimit) (before : List ℕ) (long : workSize ≤ length before)
     (prefix : ℕ) (work : List ℕ) (found : Found es before prefix work) (small : (i : ℕ) → getD work i 0 < 2 ^ 64) where
-  inside : within (transactions es) (labelled es) ≡ true
-  unfolding transactions
-  inside = within-all (transactions es) (labelled es) (labels-lt none-yet es sane-none)
-
   long-enough : workSize ≤ length work
   long-enough = omega (arith, long, found .size)
 
@@ -61,7 +55,7 @@ module _ (es : List Event) (few : transactions es ≤ transactionLimit) (before 
   last-inside k is = omega (arith, earliest (cyclicUpTo es) 1 (length es) k (sym (found .first) ∙ is) .inside, labelled-length none-yet es)
 
   cycle-right : (k : ℕ) → prefix ≡ suc k → cycleBy (labelled es) (transactions es) k work ≡ cycleOf es (suc k)
-  unfolding cycleBy cycleOf edgesUpTo transactionAt transactions
+  unfolding cycleOf edgesUpTo transactionAt transactions
   cycle-right k is =
       let n : ℕ = transactions es in
       let xs : List Labelled = labelled es in
@@ -69,12 +63,12 @@ module _ (es : List Event) (few : transactions es ≤ transactionLimit) (before 
       let t : ℕ = transactionAt es k in
       let same : edgesUpTo es (suc k) ≡ g = ap edges (labelled-take none-yet (suc k) es) in
       let below-n : (x : Labelled) → Among x xs → x .transaction < n = labels-lt none-yet es sane-none in
-      let in-t : t < n = subst (λ m. m < n) (sym (number-at xs k)) (below-n (getD xs k blank) (at-among k xs (last-inside k is))) in
-      walk-right n g work t few in-t
-      (λ b in-b. found .row k is b in-b ∙ ap (λ h. reaches h b t) same)
-      (λ a b e. edge-below n g (bounded-edges n (take (suc k) xs) (λ x m. below-n x (among-take (suc k) x xs m))) a b e .1)
-      (λ a b e. has-pair (take (suc k) xs) a b e .different)
-      n t
+      let in-t : t < n = subst (λ m. m < n) (sym (number-at xs k)) (below-n (getD xs k blank) (at-among xs k blank (last-inside k is))) in
+      let row : (b : ℕ) → b < 512 → has work t b ≡ reaches g b t = λ b in-b. found .row k is b in-b ∙ ap (λ h. reaches h b t) same in
+      let bounded : (a b : ℕ) → T (hasEdge g a b) → b < n = λ a b e. edge-below n g (bounded-edges n (take (suc k) xs) (λ x m. below-n x (among-take (suc k) x xs m))) a b e .1 in
+      let apart : (a b : ℕ) → T (hasEdge g a b) → a ≢ b = λ a b e. has-pair (take (suc k) xs) a b e .different in
+      cycle-goes xs n k work in-t (T-is (has work t t) (own-leads n g work t few in-t row bounded apart))
+      ∙ walk-right n g work t few in-t row bounded apart n t
       ∙ ap (λ h. walk n h t n t) (sym same)
 
   -- Named by the rows: all transactions in serial order where no prefix has a cycle, or else the cycle of the shortest that has one
@@ -83,5 +77,5 @@ module _ (es : List Event) (few : transactions es ≤ transactionLimit) (before 
   named-right = go prefix refl ∙ ap (named es) (found .first)
     where
       go : (p : ℕ) → prefix ≡ p → namedBy (labelled es) (transactions es) p work ≡ named es p
-      go zero is = named-order (labelled es) (transactions es) work few long-enough inside ∙ order-right is
-      go (suc k) is = named-cycle (labelled es) (transactions es) work few long-enough inside k (last-inside k is) ∙ cycle-right k is
+      go zero is = named-order (labelled es) (transactions es) work few long-enough ∙ order-right is
+      go (suc k) is = named-cycle (labelled es) (transactions es) work few long-enough k (last-inside k is) ∙ cycle-right k is

@@ -1,19 +1,20 @@
 -- What naming promises the crates above it, and its own functions one another: the transactions that rows name, where bit a of row d of the work area
 -- is taken to say that a path leads from transaction a to d. Where it does, they are those of `graph/specs/Named` (`proofs/Right`).
 -- A reader of the public promises need not read this.
-use Prim.Native.Nat.{ℕ, zero, suc, _-_, _<_}
+use Prim.Native.Nat.{ℕ, zero, suc, _+_, _-_, _<_, _≤_}
 use mathlib.Core.Path.{_≡_}
 use mathlib.Core.Bool.{Bool, true, false, cond, not, _&&_}
 use mathlib.Core.List.{List, [], _∷_, map}
 use lib.ListN.{length, getD, take, replicate}
 use lib.Dec.{eqb, ltb, leb}
-use Rattle.lists.specs.Lists.{allOf, firstOf, from, below}
+use Rattle.record.specs.declared.Event.{Event}
+use Rattle.lists.specs.Lists.{someOf, firstOf, from, below}
 use Rattle.trace.specs.Paths.{Edge}
 use Rattle.rows.specs.Bits.{has, marked, beyond}
 use Rattle.graph.specs.Transactions.{Labelled, transactionLimit, workSize}
-use Rattle.graph.specs.Edges.{edges}
+use Rattle.graph.specs.Edges.{makes, edges}
 use Rattle.graph.specs.Serial.{threadOf}
-use Rattle.graph.specs.Held.{eventsIn, held}
+use Rattle.graph.specs.Held.{eventsIn, recordAt, held}
 
 -- the first n records that arrays of threads, kinds, targets and labels hold
 abbrev pub heldIn : ℕ → List ℕ → List ℕ → List ℕ → List ℕ → List Labelled
@@ -75,30 +76,26 @@ lowestBy work T a [] low = low
 lowestBy work T a (e ∷ es) low =
     lowestBy work T a es (cond (eqb (e .origin) a && (has work T (e .goal) && ltb (rank T (e .goal)) low)) (rank T (e .goal)) low)
 
-module _ (n : ℕ) (es : List Edge) (work : List ℕ) (T : ℕ) where
-  -- 0 where the cycle closes at a, or else the next one and 1
+module _ (es : List Edge) (work : List ℕ) (T : ℕ) where
+  -- 0 where the cycle closes at a, or else the next one, of 512, and 1
   unfoldable pub nextBy : ℕ → ℕ
-  nextBy a = let r : ℕ = lowestBy work T a es (suc n) in cond (leb r n) r 1
+  nextBy a = let r : ℕ = lowestBy work T a es (suc transactionLimit) in cond (leb r transactionLimit) r 1
 
   unfoldable pub walkBy : ℕ → ℕ → List ℕ
   walkBy zero a = []
   walkBy (suc k) a = elim (nextBy a) [ zero ↦ a ∷ [] | suc b ↦ a ∷ walkBy k b ]
 
--- the cycle of the records up to record k, which is in T
+-- the cycle of the records up to record k, which is in T; nothing, where T isn't one of n or doesn't lead to itself
 unfoldable pub cycleBy : List Labelled → ℕ → ℕ → List ℕ → List ℕ
 cycleBy xs n k work =
     let T : ℕ = getD (map (λ x. x .transaction) xs) k 0 in
-    walkBy n (edges (take (suc k) xs)) work T n T
+    elim (ltb T n && has work T T) [ true ↦ walkBy (edges (take (suc k) xs)) work T n T | false ↦ [] ]
 
 -- ---- what is named
 
--- whether each record is in one of the first n transactions
-unfoldable pub within : ℕ → List Labelled → Bool
-within n xs = allOf (λ x. ltb (x .transaction) n) xs
-
 -- at most 512 transactions, a work area of 4,096 numbers at least, and a prefix of the records
 unfoldable pub fits : List Labelled → ℕ → ℕ → List ℕ → Bool
-fits xs n p work = leb n transactionLimit && (leb workSize (length work) && (leb p (length xs) && within n xs))
+fits xs n p work = leb n transactionLimit && (leb workSize (length work) && leb p (length xs))
 
 -- All n transactions of the records in serial order where p is 0, or else the cycle of the first p records. Nothing, where these don't fit
 unfoldable pub namedBy : List Labelled → ℕ → ℕ → List ℕ → List ℕ
@@ -107,3 +104,27 @@ namedBy xs n p work =
       | true ↦ elim p [ zero ↦ orderBy (threadOf xs) n work | suc k ↦ cycleBy xs n k work ]
       | false ↦ []
     ]
+
+-- ---- by what the cycle is followed: of n records, those from record i on
+
+-- the first record of transaction a; n, where there is none
+unfoldable pub recordFrom : List ℕ → ℕ → ℕ → ℕ → ℕ
+recordFrom labels n a i = firstOf (λ k. eqb (getD labels k 0) a) n (from i (n - i))
+
+-- The records of each of 512 transactions are linked: place a has its first, and place 512 + k the next after record k
+pub record Linked (labels : List ℕ) (n i : ℕ) (links : List ℕ) : Type 0 where
+  pub first : (a : ℕ) → a < 512 → getD links a 0 ≡ recordFrom labels n a i
+  pub next : (k : ℕ) → i ≤ k → k < n → getD labels k 0 < 512 → getD links (512 + k) 0 ≡ recordFrom labels n (getD labels k 0) (suc k)
+
+-- whether record i has an edge to transaction t
+unfoldable pub meets : List Event → List ℕ → ℕ → ℕ → ℕ → Bool
+meets all labels n i t = someOf (λ k. eqb (getD labels k 0) t && makes (recordAt all labels i) (recordAt all labels k)) (from (suc i) (n - suc i))
+
+-- the rank of b where it leads to T, by row T, and isn't T; or else one that is never the lowest
+abbrev pub rankBy : List ℕ → ℕ → ℕ → ℕ
+rankBy work T b = cond (ltb b transactionLimit && (not (eqb b T) && has work T b)) (suc b) (suc transactionLimit)
+
+-- The ranks of the records' transactions: place k has that of record k, and place 1,024 + k none that is higher than one from record k on
+pub record Ranked (labels work : List ℕ) (T n i : ℕ) (ranks : List ℕ) : Type 0 where
+  pub own : (k : ℕ) → i ≤ k → k < n → getD ranks k 0 ≡ rankBy work T (getD labels k 0)
+  pub low : (k j : ℕ) → i ≤ k → k ≤ j → j < n → getD ranks (1024 + k) 0 ≤ rankBy work T (getD labels j 0)
