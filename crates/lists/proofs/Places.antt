@@ -6,7 +6,7 @@ use native.Mathlib.Nat.{add-zero, zero-add, lt-of-not-le}
 use mathlib.Core.Path.{_≡_, refl, sym, ap, ap₂, _∙_}
 use mathlib.Core.Logic.{_≢_}
 use mathlib.Core.List.{List, [], _∷_, _++_, append-assoc, append-nil}
-use lib.ListN.{length, getD, set, take, drop, replicate, length-append, length-drop, take-append-drop, drop-of-length-le, List·getD-eq-default}
+use lib.ListN.{length, getD, set, take, drop, replicate, length-append, length-set, length-drop, take-append-drop, drop-of-length-le, List·getD-eq-default}
 use lib.Seq.{take-all, take-suc, take-at, drop-cons, drop-drop, drop-append-add, set-at, set-split, length-take-le}
 use borrow.Rule.Slice.PartMut.{putMid}
 use Rattle.lists.specs.Lists.{over, writtenAt}
@@ -112,6 +112,13 @@ module _ {A : Type 0} where
       ap₂ (λ (x y : List A). x ++ (more ++ y)) t d
       ∙ append-assoc (take n l) new (more ++ last)
       ∙ ap (λ x. take n l ++ x) (sym (append-assoc new more last))
+
+  -- two stores, one after the other
+  pub written-two : (l : List A) (n : ℕ) (x y : A) → n + 2 ≤ length l → set (set l n x) (n + 1) y ≡ writtenAt l n (x ∷ y ∷ [])
+  written-two l n x y h =
+      written-one (set l n x) (n + 1) y (omega (arith, length-set l n x))
+      ∙ ap (λ v. writtenAt v (n + 1) (y ∷ [])) (written-one l n x (omega arith))
+      ∙ written-more l n (x ∷ []) (y ∷ []) (omega arith)
 
 -- what a callee wrote over the front of the part from a on, said of the whole
 pub put-over : (b xs ys : List ℕ) (a : ℕ) → a ≤ length xs → ys ≡ over b (take (length xs - a) (drop a xs)) → putMid a (length xs - a) xs ys ≡ take a xs ++ b ++ drop (a + length b) xs

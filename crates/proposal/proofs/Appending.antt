@@ -6,7 +6,7 @@ use Rattle.record.specs.declared.Event.{Event}
 use Rattle.replay.specs.declared.State.{State}
 use Rattle.replay.specs.Machine.{faultOf, next, after, possible}
 use Rattle.graph.specs.Transactions.{Tally, belongs, tallied, Labelled, labelledFrom, tallyFrom}
-use Rattle.graph.specs.Engine.{labelledAs}
+use Rattle.graph.specs.Held.{labelledAs}
 use Rattle.graph.proofs.Numbers.{Sane, sane-tallied}
 use Rattle.lists.proofs.Tests.{and-left, and-right, and-both}
 

@@ -12,21 +12,21 @@ use Rattle.record.specs.declared.Op.the-variants.{Yield}
 use Rattle.record.specs.Record.{target}
 use Rattle.lists.specs.Lists.{someOf}
 use Rattle.trace.specs.Paths.{Edge, hasEdge, Path, reaches, cyclic}
-use Rattle.lists.proofs.Tests.{by, by-same, T-of, or-cases, or-left, or-right, and-left, and-right, and-both}
-use Rattle.lists.proofs.Lists.{Among, Before, among-cons, some-none, among-map, before-map}
+use Rattle.lists.proofs.Tests.{by, by-same, T-of, T-is, or-cases, or-left, or-right, and-left, and-right, and-both}
+use Rattle.lists.proofs.Lists.{Among, Before, among-cons, some-none, among-map, before-map, before-mid, mid-before, among-parts}
 use Rattle.trace.proofs.Reach.{Bounded, edge-below, sound, edge-back}
 use Rattle.trace.proofs.Closing.{cyclic-goal}
 use Rattle.graph.specs.Conflict as Conflict
 use Rattle.graph.specs.Conflict.{accesses, writes, locks, forks, joins, sameThread, sameVariable, sameLock, governs, sameChild, conflict}
 use Rattle.graph.specs.Transactions.{Tally, none-yet, currentOf, begins, belongs, tallied, Labelled, labelledFrom, labelled, tallyFrom}
 use Rattle.graph.specs.Edges.{makes, edges}
-use Rattle.graph.specs.Engine.{labelledAs}
+use Rattle.graph.specs.Held.{labelledAs}
 use Rattle.graph.proofs.Clash.{conflict-own}
 use Rattle.graph.proofs.Ends.{pair-has}
 use Rattle.graph.proofs.Labels.{ev, labelled-events}
 use Rattle.graph.proofs.Numbers.{sane-none, open-of, belongs-first, belongs-open, labels-lt, bounded-edges, current-here, current-other}
 use Rattle.graph.proofs.Steps.{among-none, edges-snoc}
-use Rattle.thin.proofs.Meet.{Fits}
+use Rattle.second.proofs.Orderly.{Fits}
 use Rattle.proposal.specs.Walk.{yieldOf, needsYield}
 use Rattle.proposal.proofs.Appending.{labelled-append, tally-append}
 use Rattle.proposal.proofs.Idle.{current-ended, yield-last}
@@ -82,10 +82,7 @@ module _ (built : List Event) where
     -- so a record that needs a yield begins none
     pub needs-open : (e : Event) → needsYield built e ≡ true → begins tally e ≡ false
     unfolding needsYield
-    needs-open e h = fails (begins tally e) (λ t. subst T (sym h ∙ begins-none e (is t)) tt)
-      where
-        is : {b : Bool} → T b → b ≡ true
-        is {b} t = by b (λ q. q) (λ q. absurd (subst T q t))
+    needs-open e h = fails (begins tally e) (λ t. subst T (sym h ∙ begins-none e (T-is (begins tally e) t)) tt)
 
 -- ---- the newest record of a thread
 
@@ -138,25 +135,6 @@ newest s (e ∷ es) t c h = go (newest (tallied s e) es t c h)
           none = r .1;
         }))
         (λ d. inr (sym (current-other s e t d) ∙ r .0, λ y m. among-cons m (λ q z. d (sym z ∙ ap (λ x. x .event .thread) q)) (r .1 y)))
-
--- ---- places around an element
-
-among-mid : {A : Type 0} (us : List A) (z : A) (vs : List A) → Among z (us ++ (z ∷ vs))
-among-mid [] z vs = Among.top
-among-mid (x ∷ us) z vs = Among.deeper (among-mid us z vs)
-
-pub before-mid : {A : Type 0} {y : A} (us : List A) (z : A) (vs : List A) → Among y us → Before y z (us ++ (z ∷ vs))
-before-mid (x ∷ us) z vs Among.top = Before.now (among-mid us z vs)
-before-mid (x ∷ us) z vs (Among.deeper m) = Before.under (before-mid us z vs m)
-
-mid-before : {A : Type 0} {y : A} (us : List A) (z : A) (vs : List A) → Among y vs → Before z y (us ++ (z ∷ vs))
-mid-before [] z vs m = Before.now m
-mid-before (x ∷ us) z vs m = Before.under (mid-before us z vs m)
-
-pub among-parts : {A C : Type 0} {y : A} (us : List A) (z : A) (vs : List A) → Among y (us ++ (z ∷ vs)) → (Among y us → C) → (y ≡ z → C) → (Among y vs → C) → C
-among-parts [] z vs m f g h = among-cons m g h
-among-parts (x ∷ us) z vs Among.top f g h = f Among.top
-among-parts (x ∷ us) z vs (Among.deeper m) f g h = among-parts us z vs m (λ n. f (Among.deeper n)) g h
 
 -- ---- a yield in the middle of a transaction
 
@@ -223,7 +201,7 @@ module _ (built : List Event) (e : Event) (none : cyclic (edges (labelled built)
         let clash : T (conflict (y .event) yielding) = and-right (not (eqb (y .transaction) c)) (conflict (y .event) yielding) k in
         let apart : y .transaction ≢ c = λ q. T-not (eqb (y .transaction) c) differ (subst (λ d. T (eqb (y .transaction) d)) q (eqb-refl (y .transaction))) in
         let in-built : Among (y .event) built = subst (λ l. Among (y .event) l) (labelled-events none-yet built) (among-map ev m) in
-        among-parts (n .older) z (n .newer) (subst (λ l. Among y l) (n .whole) m)
+        among-parts y (n .older) z (n .newer) (subst (λ l. Among y l) (n .whole) m)
         (λ i. subst (λ d. T (hasEdge (edges (labelled built)) (y .transaction) d)) (n .transaction-is)
         (pair-has y z (labelled built) (subst (λ l. Before y z l) (sym (n .whole)) (before-mid (n .older) z (n .newer) i))
         (and-both (not (eqb (y .transaction) (z .transaction))) (conflict (y .event) (z .event))

@@ -14,8 +14,7 @@ use Rattle.trace.specs.Paths as Paths
 use Rattle.graph.specs.Conflict as Conflict
 use Rattle.graph.specs.Transactions as Transactions
 use Rattle.graph.specs.Edges as Edges
-use Rattle.checker.specs.Refusals as Refusals
-use Rattle.checker.specs.Examined as Examined
+use Rattle.looking.specs.Refusals as Refusals
 use Rattle.proposal.specs.Walk as Walk
 use Rattle.proposal.specs.Walk.{eventsIn, finished}
 use Rattle.proposal.specs.Proposed as Whole
@@ -85,5 +84,5 @@ rest n = replicate n 0xEE
 
 pub whole : proposed (bytesOf p3) (rest 8192) (replicate 4097 0x77)
     ≡ record { answer = record { kind = 0; first = 40; second = 1 }; out = bytesOf p4 ++ rest 8152; work = replicate 4096 0 ++ (0x77 ∷ []) }
-unfolding Faults.opened Record.opened Machine.opened Lists.opened Paths.opened Conflict.opened Transactions.opened Edges.opened Examined.opened Refusals.opened Walk.opened Whole.opened
+unfolding Faults.opened Record.opened Machine.opened Lists.opened Paths.opened Conflict.opened Transactions.opened Edges.opened Refusals.opened Walk.opened Whole.opened
 whole = refl

@@ -19,8 +19,8 @@ use Rattle.replay.specs.Machine.{fresh, forked, waitless, waitsOn, lifeOf, wait
 use Rattle.lists.proofs.Tests.{by, by-same, T-of}
 use Rattle.graph.specs.Transactions.{Tally, none-yet, currentOf, begins, belongs, ends, tallied, tallyFrom}
 use Rattle.graph.proofs.Numbers.{sane-none, current-other, open-of}
+use Rattle.second.proofs.Possible.{met, first-fine}
 use Rattle.proposal.specs.Walk.{yieldOf}
-use Rattle.proposal.proofs.Orders.{found, first-fine}
 
 pub set-zero : (l : List ℕ) (i : ℕ) → getD (set l i 0) i 0 ≡ 0
 set-zero [] i = refl
@@ -77,7 +77,7 @@ pub idle-next : (s : State) (c : Tally) (e : Event) → faultOf s e ≡ 0 → Id
 idle-next s c e fine idle u opened = by-same u (e .thread)
     (λ q. by (ends e)
     (λ b. absurd (opened (ap (currentOf (tallied c e)) q ∙ current-ended c e b)))
-    (λ b. ap (waitOf (next s e)) q ∙ wait-own s (e .thread) (e .op) (found s e fine .wait) (not-ended e b)))
+    (λ b. ap (waitOf (next s e)) q ∙ wait-own s (e .thread) (e .op) (met s e fine .wait) (not-ended e b)))
     (λ d. wait-other s (e .thread) (e .op) u d ∙ idle u (λ z. opened (current-other c e u d ∙ z)))
 
 pub idle-after : (s : State) (c : Tally) (es : List Event) → T (possible s es) → Idle s c → Idle (after s es) (tallyFrom c es)
@@ -94,7 +94,7 @@ pub yield-possible : (s : State) (c : Tally) (e : Event) → faultOf s e ≡ 0 �
 unfolding faultOf checks finds waitBefore firstFault
 yield-possible s c e fine idle b =
     let t : ℕ = e .thread in
-    let life : eqb (lifeOf s t) forked ≡ true = eq-eqb (lifeOf s t) forked (found s e fine .life) in
+    let life : eqb (lifeOf s t) forked ≡ true = eq-eqb (lifeOf s t) forked (met s e fine .life) in
     let wait : eqb (waitOf s t) waitless ≡ true = eq-eqb (waitOf s t) waitless (idle t (λ z. absurd (subst T (open-of c e b) (T-of (eq-eqb (currentOf c t) 0 z))))) in
     ap (λ p. firstFault (check 8 0 p ∷ check 9 0 (eqb (waitOf s t) waitless) ∷ [])) life
     ∙ ap (λ p. firstFault (check 9 0 p ∷ [])) wait

@@ -17,15 +17,15 @@ use Rattle.rows.specs.Bits.{begun}
 use Rattle.graph.specs.Conflict.{joins}
 use Rattle.graph.specs.Transactions.{Tally, none-yet, currentOf, begins, belongs, full, tallied, tallyFrom, Labelled, labelledFrom, labelled, transactions, transactionLimit}
 use Rattle.graph.specs.Edges.{edges}
-use Rattle.graph.specs.Engine.{labelledAs}
+use Rattle.graph.specs.Held.{labelledAs}
 use Rattle.graph.proofs.Labels.{ev, labelled-events}
 use Rattle.graph.proofs.Numbers.{sane-none, belongs-open, belongs-lt, count-begun, count-unbegun, count-rises}
-use Rattle.graph.proofs.Steps.{among-first, before-first}
-use Rattle.thin.specs.Cells.{idle, closing, Taken, taken}
-use Rattle.thin.proofs.Meet.{Orderly}
-use Rattle.thin.proofs.Agree as Agree
-use Rattle.thin.proofs.Right.{Holds, begun-holds, closing-right, Looks, looks-all, taken-right, taken-kept}
-use Rattle.checker.proofs.Reporting.{counted-few}
+use Rattle.looking.proofs.Laws.{counted-few}
+use Rattle.second.specs.Cells.{idle}
+use Rattle.second.specs.Taken.{closing, Taken, taken}
+use Rattle.second.proofs.Orderly.{Orderly, orderly-first}
+use Rattle.second.proofs.Agree.{eventsOf}
+use Rattle.second.proofs.Holding.{Holds, begun-holds, closing-right, Looks, looks-all, taken-right, taken-kept}
 use Rattle.proposal.specs.Walk.{yieldOf, needsYield, placed, grown, recordLimit, roomChecks}
 use Rattle.proposal.specs.Weaving.{placedAs}
 use Rattle.proposal.specs.Keeping.{Kept, needing, putIn, Stepping, stepAs, lastIn, stepping}
@@ -34,6 +34,7 @@ use Rattle.proposal.proofs.Cycles.{tally, labelled-more, begins-none, n
 use Rattle.proposal.proofs.Walks.{Fine, inside, ahead, orderly-next, orderly-yield, placed-yield, placed-alone, grown-yield, grown-alone}
 use Rattle.proposal.proofs.Bytes.{few-open}
 use Rattle.proposal.proofs.Weaving.{placed-unmarked, placed-marked}
+use Rattle.proposal.proofs.Putting.{none-full, is-full, put-none}
 
 -- Cells and rows hold the labelled records, and the tally is theirs
 pub record Represents (built : List Event) (k : Kept) : Type 0 where
@@ -54,7 +55,7 @@ module _ (built : List Event) (e : Event) where
   abbrev x : Labelled
   x = labelledAs (belongs (tally built) e) e
 
-  events-more : Agree.eventsIn (labelled built ++ (x ∷ [])) ≡ built ++ (e ∷ [])
+  events-more : eventsOf (labelled built ++ (x ∷ [])) ≡ built ++ (e ∷ [])
   events-more = map-append ev (labelled built) (x ∷ []) ∙ ap (λ l. l ++ (e ∷ [])) (labelled-events none-yet built)
 
   tally-more : tally (built ++ (e ∷ [])) ≡ tallied (tally built) e
@@ -65,7 +66,7 @@ module _ (built : List Event) (e : Event) where
   belongs-small = belongs-lt (tally built) e (sane-from none-yet built sane-none)
 
   module _ (ok : Orderly (built ++ (e ∷ []))) where
-    ok-more : Orderly (Agree.eventsIn (labelled built ++ (x ∷ [])))
+    ok-more : Orderly (eventsOf (labelled built ++ (x ∷ [])))
     ok-more = subst Orderly (sym events-more) ok
 
     -- ---- an event put
@@ -121,10 +122,10 @@ module _ (built : List Event) (e : Event) where
         let test : List ℕ → Bool = λ c. cond (joins (e .op) || eqb (getD c (e .thread) 0) 0) false (closing (k .cells) (k .rows) (pred (getD c (e .thread) 0)) e) in
         ap (λ t. test (t .current)) (r .tally-is)
         ∙ by (joins (e .op) || eqb own 0)
-        (λ b. ap (λ c. cond c false (closing (k .cells) (k .rows) (pred own) e)) b ∙ sym (begins-none built (r .holds .none) e b))
+        (λ b. ap (λ c. cond c false (closing (k .cells) (k .rows) (pred own) e)) b ∙ sym (begins-none built (r .holds .rows .none) e b))
         (λ b. ap (λ c. cond c false (closing (k .cells) (k .rows) (pred own) e)) b
         ∙ ap (λ a. closing (k .cells) (k .rows) a e) (sym (belongs-open s e b))
-        ∙ closing-right (labelled built) x ok-more 512 (k .cells) (k .rows) (s .count) (r .holds) (omega (arith, belongs-small, count-unbegun s e b, r .holds .most))
+        ∙ closing-right (labelled built) x ok-more 512 (k .cells) (k .rows) (s .count) (r .holds) (omega (arith, belongs-small, count-unbegun s e b, r .holds .rows .most))
         ∙ ap (λ l. cyclic (edges l)) (sym (labelled-more built e)))
 
 -- ---- room
@@ -179,23 +180,22 @@ module _ (built : List Event) (e : Event) (es : List Event) (f : Fine built (e �
     transactions-are = ap (λ l. tallyFrom none-yet l .count) is ∙ ap (λ t. t .count) (tally-more front e)
 
     last-right : Right built k e (lastIn mark j e)
-    unfolding lastIn
     last-right = by (full (j .tally) e)
-        (λ h. subst (Right built k e) (sym (ap (λ b. cond b (stepAs 13 mark j) (stepAs 0 mark (putIn j e))) h)) (record {
-          number-is = sym (room-full built e short (omega (arith, transactions-are, full-over (tally front) e (ap (λ t. full t e) (sym (q .tally-is)) ∙ h))));
+        (λ h. record {
+          number-is = is-full j e h ∙ sym (room-full built e short (omega (arith, transactions-are, full-over (tally front) e (ap (λ t. full t e) (sym (q .tally-is)) ∙ h))));
           placed-is = as-placed;
           mark-bit = bit;
-          represents = λ z. absurd (omega (arith, z));
-          rest = kept;
-        }))
-        (λ h. let few : tallied (tally front) e .count ≤ 512 = counted-few (tally front) e (q .holds .most) (ap (λ t. full t e) (sym (q .tally-is)) ∙ h) in
-        subst (Right built k e) (sym (ap (λ b. cond b (stepAs 13 mark j) (stepAs 0 mark (putIn j e))) h)) (record {
-          number-is = sym (room-none built e short (omega (arith, transactions-are)));
+          represents = λ z. absurd (omega (arith, z, is-full j e h));
+          rest = ap (λ l. drop 4096 (l .rows)) (put-none j e h) ∙ kept;
+        })
+        (λ h. let few : tallied (tally front) e .count ≤ 512 = counted-few (tally front) e (q .holds .rows .most) (ap (λ t. full t e) (sym (q .tally-is)) ∙ h) in
+        record {
+          number-is = none-full j e h ∙ sym (room-none built e short (omega (arith, transactions-are)));
           placed-is = as-placed;
           mark-bit = bit;
           represents = λ z. subst (λ l. Represents l (putIn j e)) (sym is) (put-right front e ok j q few none);
           rest = put-rest front e ok j q few ∙ kept;
-        }))
+        })
 
   -- no room for the records
   short-right : (mark : ℕ) → mark ≤ 1 → 1024 < length (grown built e) → placedAs mark e ≡ placed built e → Right built k e (stepAs 15 mark k)
@@ -227,7 +227,7 @@ module _ (built : List Event) (e : Event) (es : List Event) (f : Fine built (e �
     y = yieldOf (e .thread)
 
     opened : begins s₀ e ≡ false
-    opened = needs-open built (r .holds .none) e h
+    opened = needs-open built (r .holds .rows .none) e h
 
     yield-placed : placedAs 1 e ≡ placed built e
     yield-placed = placed-marked 1 e (λ z. absurd (omega (arith, z))) ∙ sym (placed-yield built e h)
@@ -236,19 +236,16 @@ module _ (built : List Event) (e : Event) (es : List Event) (f : Fine built (e �
     grown-is = grown-yield built e h ∙ sym (append-snoc built y (e ∷ []))
 
     yield-count : tallied s₀ y .count ≡ s₀ .count
-    yield-count = count-unbegun s₀ y (yield-open built e (r .holds .none) opened (inside built e es f) (ahead built e es f))
+    yield-count = count-unbegun s₀ y (yield-open built e (r .holds .rows .none) opened (inside built e es f) (ahead built e es f))
 
     orderly-both : Orderly ((built ++ (y ∷ [])) ++ (e ∷ []))
     orderly-both = orderly-yield built e es f h
 
     yield-ok : Orderly (built ++ (y ∷ []))
-    yield-ok = record {
-      ranges = λ z m. orderly-both .ranges z (among-first (built ++ (y ∷ [])) (e ∷ []) m);
-      pairs = λ z w o. orderly-both .pairs z w (before-first (built ++ (y ∷ [])) (e ∷ []) o);
-    }
+    yield-ok = orderly-first (built ++ (y ∷ [])) (e ∷ []) orderly-both
 
     few-yield : tallied s₀ y .count ≤ 512
-    few-yield = omega (arith, yield-count, r .holds .most)
+    few-yield = omega (arith, yield-count, r .holds .rows .most)
 
     yield-right : (n : ℕ) → n ≡ length built → Right built k e (cond (ltb 1022 n) (stepAs 15 1 k) (lastIn 1 (putIn k y) e))
     yield-right n size =
@@ -257,8 +254,8 @@ module _ (built : List Event) (e : Event) (es : List Event) (f : Fine built (e �
         (λ b. subst (Right built k e) (sym (ap (λ c. cond c (stepAs 15 1 k) (lastIn 1 (putIn k y) e)) b)) (short-right 1 (omega arith) (omega (arith, long, size, ltb-true 1022 n b)) yield-placed))
         (λ b. subst (Right built k e) (sym (ap (λ c. cond c (stepAs 15 1 k) (lastIn 1 (putIn k y) e)) b))
         (last-right (built ++ (y ∷ [])) 1 (omega arith) (putIn k y)
-        (put-right built y yield-ok k r few-yield (yield-none built e (r .holds .none) opened (inside built e es f) (ahead built e es f)))
-        orderly-both (after-none built e (r .holds .none) opened (inside built e es f) (ahead built e es f)) grown-is
+        (put-right built y yield-ok k r few-yield (yield-none built e (r .holds .rows .none) opened (inside built e es f) (ahead built e es f)))
+        orderly-both (after-none built e (r .holds .rows .none) opened (inside built e es f) (ahead built e es f)) grown-is
         (omega (arith, long, size, ltb-false 1022 n b)) yield-placed (put-rest built y yield-ok k r few-yield)))
 
   -- The step is that of the walk

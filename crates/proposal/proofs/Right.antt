@@ -1,43 +1,39 @@
 -- Proposed yields are what document 02 says: the finished recording is cooperable, it is the input once the added yields are taken out, and each of them is
 -- needed. Of every input, output and work area that aren't refused.
-use Prim.Native.Nat.{ℕ, zero, suc, _/_, _%_, _≤_}
+use Prim.Native.Nat.{ℕ, zero, suc, _/_, _≤_}
 use native.Mathlib.Omega.{arith}
 use mathlib.Core.Path.{_≡_, refl, sym, ap, _∙_, subst}
-use mathlib.Core.Bool.{true, false}
+use mathlib.Core.Bool.{Bool, true, false, not}
 use mathlib.Core.List.{List, [], _∷_, _++_, append-nil}
-use lib.ListN.{length, take, drop, replicate, length-append, length-map}
+use lib.ListN.{length, take, drop, length-append, length-map}
 use lib.Seq.{take-length, take-append-seam}
-use lib.Dec.{T, eqb, leb}
-use borrow.Author.Tests.{eqb-true, leb-true}
+use lib.Dec.{T}
 use Rattle.record.specs.declared.Event.{Event}
-use Rattle.record.specs.Faults.{firstFault}
-use Rattle.record.specs.Record.{event, inRange, recordsOf}
-use Rattle.record.proofs.Laws.{none-first}
-use Rattle.replay.specs.Machine.{fresh, possible}
+use Rattle.record.specs.Record.{inRange}
+use Rattle.replay.specs.Machine.{fresh, act, possible}
 use Rattle.replay.specs.Machine.{after as state-after}
-use Rattle.lists.specs.Lists.{someOf, from, over}
+use Rattle.lists.specs.Lists.{allOf, keep, from, over}
+use Rattle.lists.proofs.Tests.{by, by-same}
+use Rattle.lists.proofs.Lists.{Among, append-among, among-second, all-has, all-of, first-default, first-is, from-bound, map-append, keep-true, keep-false}
 use Rattle.trace.specs.Paths.{cyclic}
-use Rattle.lists.proofs.Lists.{Among, first-default, first-is, from-bound, map-append}
-use Rattle.graph.specs.Arranged.{workSize}
-use Rattle.graph.specs.Transactions.{none-yet, labelledFrom, labelled, tallyFrom, transactions}
+use Rattle.graph.specs.Transactions.{labelled, transactions}
 use Rattle.graph.specs.Edges.{edges}
 use Rattle.graph.specs.Violation.{edgesUpTo, cyclicUpTo, shortest}
 use Rattle.graph.proofs.Meaning.{cycle-stays}
-use Rattle.checker.specs.Examined.{inputChecks}
-use Rattle.checker.specs.Refusals as Checker
-use Rattle.checker.specs.Refusals.{start, firstRefusal, events}
-use Rattle.checker.proofs.Refusing.{Sized, sized, size-passed}
-use Rattle.checker.proofs.Refusing.{sizes-passed as checker-passed}
-use Rattle.checker.proofs.Passed.{passed, records-sized}
-use Rattle.checker.proofs.Demand3.{ranged}
-use Rattle.proposal.specs.Walk.{Placed, yieldOf, yieldFor, eventsIn, needsYield, finished, stop}
-use Rattle.proposal.specs.Proposed.{sizeChecks, refusal, bytesOf, done, refused, proposed}
-use Rattle.proposal.specs.Meaning.{Judges, Right}
+use Rattle.graph.proofs.Steps.{among-first}
+use Rattle.looking.specs.Refusals.{events}
+use Rattle.looking.proofs.Laws.{Passed}
+use Rattle.second.proofs.Possible.{first-fine}
+use Rattle.proposal.specs.Walk.{Placed, given, yieldOf, yieldFor, eventsIn, needsYield, grown, walked, finished, stop}
+use Rattle.proposal.specs.Proposed.{refusal, bytesOf, done, proposed}
+use Rattle.proposal.specs.Meaning.{withoutYields, Judges, Right}
 use Rattle.proposal.proofs.Appending.{possible-parts, possible-both}
 use Rattle.proposal.proofs.Cycles.{fails}
-use Rattle.proposal.proofs.Walks.{Fine, fine-end, given-left, room-end, yield-out, among-with}
-use Rattle.proposal.proofs.Bytes.{sizes-fine, Within, judges-cooperable, judges-violation, bytes-again}
+use Rattle.proposal.proofs.Walks.{placed-yield, placed-alone, Fine, start-fine, end-fine, limits}
+use Rattle.proposal.proofs.Bytes.{bytes-again}
 use Rattle.proposal.proofs.Dropped.{Around, around, fewer}
+use Rattle.proposal.proofs.Endings.{unrefused, refused-before, refused-walking, proposed-done}
+use Rattle.proposal.proofs.Judging.{Within, judges-cooperable, judges-violation}
 
 -- ---- the shortest prefix with a cycle
 
@@ -66,41 +62,55 @@ shortest-next built e es none some =
     (λ k lo hi. fails (cyclicUpTo all k) (λ t.
     subst T (prefix-is all built (length built) (take-append-seam built (e ∷ es)) ∙ none) (cycle-stays all k (length built) (omega arith) t)))
 
+-- ---- the input's records are left once the added yields are taken out
+
+given-left : (built es : List Event) → eventsIn (withoutYields (walked built es)) ≡ es
+unfolding walked withoutYields keep
+given-left built [] = refl
+given-left built (e ∷ es) = by (needsYield built e)
+    (λ h. ap (λ l. eventsIn (keep kept (l ++ walked (grown built e) es))) (placed-yield built e h)
+    ∙ ap eventsIn (keep-false kept (yieldFor e) (given e ∷ walked (grown built e) es) refl ∙ keep-true kept (given e) (walked (grown built e) es) refl)
+    ∙ ap (λ l. e ∷ l) (given-left (grown built e) es))
+    (λ h. ap (λ l. eventsIn (keep kept (l ++ walked (grown built e) es))) (placed-alone built e h)
+    ∙ ap eventsIn (keep-true kept (given e) (walked (grown built e) es) refl)
+    ∙ ap (λ l. e ∷ l) (given-left (grown built e) es))
+  where
+    kept : Placed → Bool
+    kept p = not (p .added)
+
 -- ---- a walk that isn't stopped
 
-module _ (es : List Event) (can : T (possible fresh es)) (fit : (e : Event) → Among e es → T (inRange e)) (room : stop [] 0 es .number ≡ 0) where
-  start-fine : Fine [] es
-  unfolding labelledFrom edges cyclic someOf
-  start-fine = record { can = can; fit = fit; acyclic = refl }
+-- a yield that is taken out leaves a possible history
+yield-out : (front : List Event) (t : ℕ) (es : List Event) → T (possible fresh (front ++ (yieldOf t ∷ es))) → T (possible fresh (front ++ es))
+unfolding act
+yield-out front t es p =
+    let parts = possible-parts fresh front (yieldOf t ∷ es) p in
+    possible-both fresh front es (parts .0) (first-fine (state-after fresh front) (yieldOf t) es (parts .1) .1)
 
+module _ (es : List Event) (can : T (possible fresh es)) (fit : T (allOf inRange es)) (room : stop [] 0 es .number ≡ 0) where
   abbrev recording : List Event
   recording = eventsIn (finished es)
 
-  end-fine : Fine recording []
-  unfolding finished
-  end-fine = fine-end [] es start-fine
-
-  pub limits : (length recording ≤ 1024) × (transactions recording ≤ 512)
-  unfolding finished transactions tallyFrom none-yet
-  limits = room-end [] 0 es room (omega arith) (omega arith)
+  fine : Fine recording []
+  fine = end-fine es can fit
 
   within : Within recording
   within = record {
-    can = subst (λ l. T (possible fresh l)) (append-nil recording) (end-fine .can);
-    fit = subst (λ l. (e : Event) → Among e l → T (inRange e)) (append-nil recording) (end-fine .fit);
-    short = limits .0;
-    few = limits .1;
+    can = subst (λ l. T (possible fresh l)) (append-nil recording) (fine .can);
+    fit = subst (λ l. T (allOf inRange l)) (append-nil recording) (fine .fit);
+    short = limits es room .0;
+    few = limits es room .1;
   }
 
   -- it is cooperable
-  pub is-cooperable : Judges recording 0 (length recording)
-  is-cooperable = judges-cooperable recording within (shortest-zero recording (end-fine .acyclic))
+  is-cooperable : Judges recording 0 (length recording)
+  is-cooperable = judges-cooperable recording within (shortest-zero recording (fine .acyclic))
 
   -- one added yield, and what stands around it
   module _ (before after : List Placed) (p : Placed) (split : finished es ≡ before ++ (p ∷ after)) (added : T (p .added)) where
-    pub standing : Around [] before after p
+    standing : Around [] before after p
     unfolding finished
-    standing = around [] es start-fine before after p split added
+    standing = around [] es (start-fine es can fit) before after p split added
 
     abbrev e : Event
     e = standing .e
@@ -121,16 +131,16 @@ module _ (es : List Event) (can : T (possible fresh es)) (fit : (e : Event) → 
     left-within : Within (front ++ (e ∷ rest))
     left-within =
         let whole : Within (front ++ (yieldOf (e .thread) ∷ e ∷ rest)) = subst Within with-yield within in
-        let parts = possible-parts fresh front (yieldOf (e .thread) ∷ e ∷ rest) (whole .can) in
         record {
-          can = possible-both fresh front (e ∷ rest) (parts .0) (yield-out (state-after fresh front) (e .thread) (e ∷ rest) (parts .1));
-          fit = λ x m. whole .fit x (among-with front (yieldOf (e .thread)) (e ∷ rest) m);
+          can = yield-out front (e .thread) (e ∷ rest) (whole .can);
+          fit = all-of inRange (front ++ (e ∷ rest)) (λ x m. all-has inRange x (front ++ (yieldOf (e .thread) ∷ e ∷ rest)) (whole .fit)
+              (append-among x front (e ∷ rest) m (among-first front (yieldOf (e .thread) ∷ e ∷ rest)) (λ i. among-second front (yieldOf (e .thread) ∷ e ∷ rest) (Among.deeper i))));
           short = omega (arith, whole .short, length-append front (yieldOf (e .thread) ∷ e ∷ rest), length-append front (e ∷ rest));
           few = omega (arith, whole .few, fewer front (e .thread) (e ∷ rest));
         }
 
     -- without it there is a violation at the record that it stood before
-    pub is-needed : Judges (eventsIn (before ++ after)) 1 (length before)
+    is-needed : Judges (eventsIn (before ++ after)) 1 (length before)
     is-needed =
         let size : length front ≡ length before = length-map before (λ x. x .event) in
         subst (λ k. Judges (eventsIn (before ++ after)) 1 k) size
@@ -139,99 +149,33 @@ module _ (es : List Event) (can : T (possible fresh es)) (fit : (e : Event) → 
 
 -- ---- from bytes
 
-pub record Sizes (input out work : List ℕ) : Type 0 where
-  pub whole : length input % 8 ≡ 0
-  pub most : length input ≤ 8192
-  pub out-room : 8192 ≤ length out
-  pub work-room : 4096 ≤ length work
-
-pub sizes : (input out work : List ℕ) → firstFault (sizeChecks input out work) ≡ 0 → Sizes input out work
-unfolding sizeChecks inputChecks
-sizes input out work h =
-    let a = none-first 1 0 (eqb (length input % 8) 0) _ (omega arith) h in
-    let b = none-first 2 0 (leb (length input) 8192) _ (omega arith) (a .1) in
-    let c = none-first 3 0 (leb 8192 (length out)) _ (omega arith) (b .1) in
-    let d = none-first 4 0 (leb workSize (length work)) _ (omega arith) (c .1) in
-    record {
-      whole = eqb-true (length input % 8) 0 (a .0);
-      most = leb-true (length input) 8192 (b .0);
-      out-room = leb-true 8192 (length out) (c .0);
-      work-room = leb-true workSize (length work) (d .0);
-    }
-
--- where 1 to 4 are passed, the checker's are
-pub sizes-checker : (input out work : List ℕ) → firstFault (sizeChecks input out work) ≡ 0 → firstFault (Checker.sizeChecks input out work) ≡ 0
-sizes-checker input out work h =
-    let s : Sizes input out work = sizes input out work h in
-    sizes-fine input out work (s .whole) (s .most) (omega (arith, s .most, s .out-room)) (s .work-room)
-
 module _ (input out work : List ℕ) where
-  pub sizes-refused : (n : ℕ) → firstFault (sizeChecks input out work) ≡ suc n → refusal input out work ≡ record { number = suc n; place = 0 }
-  unfolding refusal
-  sizes-refused n h = rw (h, refusal)
-
-  pub sizes-passed : firstFault (sizeChecks input out work) ≡ 0 → refusal input out work ≡ firstRefusal start 0 (recordsOf input)
-  unfolding refusal
-  sizes-passed h = rw (h, refusal)
-
-  -- a recording that isn't refused before the walk isn't by the checker
-  pub refusal-checker : refusal input out work .number ≡ 0 → Checker.refusal input out work .number ≡ 0
-  refusal-checker z = go (firstFault (sizeChecks input out work)) refl
-    where
-      go : (n : ℕ) → firstFault (sizeChecks input out work) ≡ n → Checker.refusal input out work .number ≡ 0
-      go zero q = ap (λ f. f .number) (size-passed input out work (sizes-checker input out work q) ∙ sym (sizes-passed q)) ∙ z
-      go (suc n) q = absurd (omega (arith, z, ap (λ f. f .number) (sizes-refused n q)))
-
-  -- the three ways it ends
-  pub refused-before : (n : ℕ) → refusal input out work .number ≡ suc n → proposed input out work ≡ refused (refusal input out work) out work
-  unfolding proposed
-  refused-before n h = rw (h, proposed) (ap (λ m. refused (record { number = m; place = refusal input out work .place }) out work) h)
-
-  pub refused-walking : (n : ℕ) → refusal input out work .number ≡ 0 → stop [] 0 (events input) .number ≡ suc n
-      → proposed input out work ≡ refused (stop [] 0 (events input)) out (over (replicate workSize 0) work)
-  unfolding proposed
-  refused-walking n z h =
-      rw (z, h, proposed) (ap (λ m. refused (record { number = m; place = stop [] 0 (events input) .place }) out (over (replicate workSize 0) work)) h)
-
-  pub proposed-done : refusal input out work .number ≡ 0 → stop [] 0 (events input) .number ≡ 0 → proposed input out work ≡ done (finished (events input)) out work
-  unfolding proposed
-  proposed-done z h = rw (z, h, proposed)
-
-  module _ (z : refusal input out work .number ≡ 0) (room : stop [] 0 (events input) .number ≡ 0) where
-    can : T (possible fresh (events input))
-    can = passed input out work (refusal-checker z) .0
-
-    fit : (e : Event) → Among e (events input) → T (inRange e)
-    fit = ranged input out work (refusal-checker z)
+  module _ (none : refusal input out work .number ≡ 0) (room : stop [] 0 (events input) .number ≡ 0) where
+    here : Passed input
+    here = unrefused input out work none
 
     whole-input : bytesOf (events input) ≡ input
     unfolding events
-    whole-input =
-        let s : Sized input out work = sized input out work (checker-passed input out work (refusal-checker z)) in
-        bytes-again (length input / 8) input (omega (arith, s .whole)) (records-sized input out work (refusal-checker z)) (passed input out work (refusal-checker z) .1)
+    whole-input = bytes-again (length input / 8) input (omega (arith, here .whole)) (here .sizes) (here .in-form)
 
     right-done : Right input out work
     unfolding done over finished
     right-done =
-        let ends = proposed-done z room in
+        let ends = proposed-done input out work none room in
         record {
           written = ap (λ x. take (x .answer .first) (x .out)) ends
               ∙ take-append-seam (bytesOf (eventsIn (finished (events input)))) (drop (length (bytesOf (eventsIn (finished (events input))))) out);
-          cooperable = subst (Judges (eventsIn (finished (events input))) 0) (length-map (finished (events input)) (λ x. x .event)) (is-cooperable (events input) can fit room);
+          cooperable = subst (Judges (eventsIn (finished (events input))) 0) (length-map (finished (events input)) (λ x. x .event)) (is-cooperable (events input) (here .can-be) (here .in-range) room);
           same = ap bytesOf (given-left [] (events input)) ∙ whole-input;
           stands = λ before after p split added.
-              let a = standing (events input) can fit room before after p split added in (a .e, a .rest, a .yield-is, a .after-is);
-          needed = is-needed (events input) can fit room;
+              let a = standing (events input) (here .can-be) (here .in-range) room before after p split added in (a .e, a .rest, a .yield-is, a .after-is);
+          needed = is-needed (events input) (here .can-be) (here .in-range) room;
         }
 
   -- The theorem
   pub right : proposed input out work .answer .kind ≡ 0 → Right input out work
-  right proposed-it = go (refusal input out work .number) refl
-    where
-      walk : refusal input out work .number ≡ 0 → (m : ℕ) → stop [] 0 (events input) .number ≡ m → Right input out work
-      walk z zero h = right-done z h
-      walk z (suc m) h = absurd (omega (arith, proposed-it, ap (λ x. x .answer .kind) (refused-walking m z h)))
-
-      go : (n : ℕ) → refusal input out work .number ≡ n → Right input out work
-      go zero z = walk z (stop [] 0 (events input) .number) refl
-      go (suc n) h = absurd (omega (arith, proposed-it, ap (λ x. x .answer .kind) (refused-before n h)))
+  right proposed-it = by-same (refusal input out work .number) 0
+      (λ none. by-same (stop [] 0 (events input) .number) 0
+      (λ room. right-done none room)
+      (λ some. absurd (omega (arith, proposed-it, ap (λ x. x .answer .kind) (refused-walking input out work none (stop [] 0 (events input)) refl some)))))
+      (λ some. absurd (omega (arith, proposed-it, ap (λ x. x .answer .kind) (refused-before input out work (refusal input out work) refl some))))

@@ -2,7 +2,7 @@
 use Prim.Native.Nat.{ℕ, zero, suc, _≤_}
 use native.Mathlib.Omega.{arith}
 use mathlib.Core.Path.{_≡_, refl, sym, ap, _∙_, subst}
-use mathlib.Core.Bool.{Bool, true, false, not, cond, _&&_}
+use mathlib.Core.Bool.{true, false, cond, _&&_}
 use mathlib.Core.List.{List, [], _∷_, _++_, append-assoc, append-nil}
 use lib.ListN.{length}
 use lib.Seq.{append-snoc}
@@ -11,24 +11,23 @@ use borrow.Author.Tests.{leb-true}
 use Rattle.record.specs.declared.Event.{Event}
 use Rattle.record.specs.Faults.{firstFault}
 use Rattle.record.specs.Record as Record
-use Rattle.record.specs.Record.{inRange}
+use Rattle.record.specs.Record.{kind, target, value, targetLimit, inRange}
 use Rattle.record.proofs.Laws.{none-first}
 use Rattle.replay.specs.declared.State.{State}
 use Rattle.replay.specs.Machine.{fresh, faultOf, act, after, possible}
-use Rattle.lists.specs.Lists.{keep}
+use Rattle.lists.specs.Lists.{allOf, someOf}
 use Rattle.trace.specs.Paths.{cyclic}
-use Rattle.lists.proofs.Tests.{by, and-both}
-use Rattle.lists.proofs.Lists.{Among, Before, map-append, keep-true, keep-false, among-second}
-use Rattle.graph.specs.Transactions.{none-yet, begins, labelled, transactions, transactionLimit}
+use Rattle.lists.proofs.Tests.{by, and-left, and-both}
+use Rattle.lists.proofs.Lists.{Among, Before, map-append, among-second, among-parts, all-has, all-of}
+use Rattle.graph.specs.Transactions.{none-yet, begins, labelledFrom, labelled, tallyFrom, transactions, transactionLimit}
 use Rattle.graph.specs.Edges.{edges}
-use Rattle.graph.proofs.Steps.{among-first, before-first}
-use Rattle.thin.proofs.Meet.{Fits, Orderly}
-use Rattle.proposal.specs.Walk.{Placed, given, yieldOf, yieldFor, eventsIn, needsYield, placed, grown, walked, recordLimit, roomChecks, stop}
-use Rattle.proposal.specs.Meaning.{withoutYields}
+use Rattle.graph.proofs.Steps.{among-first, before-first, before-end}
+use Rattle.second.proofs.Orderly.{Fits, Orderly, orderly-first}
+use Rattle.second.proofs.Possible.{first-fine, possible-orderly}
+use Rattle.proposal.specs.Walk.{Placed, given, yieldOf, yieldFor, eventsIn, needsYield, placed, grown, walked, finished, recordLimit, roomChecks, stop}
 use Rattle.proposal.proofs.Appending.{possible-parts, possible-both}
-use Rattle.proposal.proofs.Orders.{AllInRange, first-fine, history-orderly}
 use Rattle.proposal.proofs.Idle.{idle-fresh, idle-after, yield-possible}
-use Rattle.proposal.proofs.Cycles.{tally, needs-open, before-mid, among-parts, after-none}
+use Rattle.proposal.proofs.Cycles.{tally, needs-open, after-none}
 
 -- ---- one step of the walk
 
@@ -60,59 +59,44 @@ module _ (built : List Event) (e : Event) where
 
 pub record Fine (built es : List Event) : Type 0 where
   pub can : T (possible fresh (built ++ es))
-  pub fit : AllInRange (built ++ es)
+  pub fit : T (allOf inRange (built ++ es))
   pub acyclic : cyclic (edges (labelled built)) ≡ false
 
-pub among-with : {A : Type 0} {y : A} (us : List A) (z : A) (vs : List A) → Among y (us ++ vs) → Among y (us ++ (z ∷ vs))
-among-with [] z vs m = Among.deeper m
-among-with (x ∷ us) z vs Among.top = Among.top
-among-with (x ∷ us) z vs (Among.deeper m) = Among.deeper (among-with us z vs m)
-
-pub among-without : {A C : Type 0} {y : A} (us : List A) (z : A) (vs : List A) → Among y (us ++ (z ∷ vs)) → (Among y (us ++ vs) → C) → (y ≡ z → C) → C
-among-without us z vs m f g = among-parts us z vs m (λ i. f (among-first us vs i)) g (λ i. f (among-second us vs i))
-
 -- a yield that is possible changes nothing
-pub yield-in : (s : State) (e : Event) (es : List Event) → faultOf s (yieldOf (e .thread)) ≡ 0 → T (possible s (e ∷ es)) → T (possible s (yieldOf (e .thread) ∷ e ∷ es))
+yield-in : (s : State) (e : Event) (es : List Event) → faultOf s (yieldOf (e .thread)) ≡ 0 → T (possible s (e ∷ es)) → T (possible s (yieldOf (e .thread) ∷ e ∷ es))
 unfolding possible act
 yield-in s e es fine p = and-both (eqb (faultOf s (yieldOf (e .thread))) 0) (possible s (e ∷ es)) (subst (λ n. T (eqb n 0)) (sym fine) (eqb-refl 0)) p
-
-pub yield-out : (s : State) (t : ℕ) (es : List Event) → T (possible s (yieldOf t ∷ es)) → T (possible s es)
-unfolding act
-yield-out s t es p = first-fine s (yieldOf t) es p .1
 
 -- a yield of a thread is in range where an event of the thread is
 yield-ranged : (e : Event) → T (inRange e) → T (inRange (yieldOf (e .thread)))
 unfolding Record.opened
-yield-ranged e r = and-both (leb (e .thread) 15) true (and-left (leb (e .thread) 15) _ r) tt
-  where
-    and-left : (a b : Bool) → T (a && b) → T a
-    and-left true b t = tt
-    and-left false b t = absurd t
+yield-ranged e r = and-both (leb (e .thread) 15) true (and-left (leb (e .thread) 15) (leb (target (e .op)) (targetLimit (kind (e .op))) && leb (value (e .op)) 65535) r) tt
 
 module _ (built : List Event) (e : Event) (es : List Event) (f : Fine built (e ∷ es)) where
   parts : T (possible fresh built) × T (possible (after fresh built) (e ∷ es))
   parts = possible-parts fresh built (e ∷ es) (f .can)
 
-  pub inside : (x y : Event) → Before x y built → Fits x y
-  inside = history-orderly built (parts .0) (λ x m. f .fit x (among-first built (e ∷ es) m)) .pairs
+  ranged : (x : Event) → Among x (built ++ (e ∷ es)) → T (inRange x)
+  ranged x m = all-has inRange x (built ++ (e ∷ es)) (f .fit) m
 
-  pub ahead : (x : Event) → Among x built → Fits x e
-  ahead x m = history-orderly (built ++ (e ∷ es)) (f .can) (f .fit) .pairs x e (before-mid built e es m)
+  pub next-ranged : T (inRange e)
+  next-ranged = ranged e (among-second built (e ∷ es) Among.top)
 
   -- the recording with the record is orderly
   pub orderly-next : Orderly (built ++ (e ∷ []))
-  orderly-next =
-      let whole : Orderly ((built ++ (e ∷ [])) ++ es) = subst Orderly (sym (append-snoc built e es)) (history-orderly (built ++ (e ∷ es)) (f .can) (f .fit)) in
-      record {
-        ranges = λ x m. whole .ranges x (among-first (built ++ (e ∷ [])) es m);
-        pairs = λ x y o. whole .pairs x y (before-first (built ++ (e ∷ [])) es o);
-      }
+  orderly-next = orderly-first (built ++ (e ∷ [])) es (subst Orderly (sym (append-snoc built e es)) (possible-orderly (built ++ (e ∷ es)) (f .can) (f .fit)))
+
+  pub inside : (x y : Event) → Before x y built → Fits x y
+  inside x y o = orderly-next .pairs x y (before-first built (e ∷ []) o)
+
+  pub ahead : (x : Event) → Among x built → Fits x e
+  ahead x m = orderly-next .pairs x e (before-end built e m)
 
   fine-alone : needsYield built e ≡ false → Fine (built ++ (e ∷ [])) es
   unfolding needsYield
   fine-alone h = record {
     can = subst (λ l. T (possible fresh l)) (sym (append-snoc built e es)) (f .can);
-    fit = subst AllInRange (sym (append-snoc built e es)) (f .fit);
+    fit = subst (λ l. T (allOf inRange l)) (sym (append-snoc built e es)) (f .fit);
     acyclic = h;
   }
 
@@ -132,23 +116,21 @@ module _ (built : List Event) (e : Event) (es : List Event) (f : Fine built (e �
         (yield-possible (after fresh built) (tally built) e (first-fine (after fresh built) e es (parts .1) .0) (idle-after fresh none-yet built (parts .0) idle-fresh) opened)
         (parts .1))
 
-    in-range : AllInRange (built ++ (yielding ∷ e ∷ es))
-    in-range x m = among-without built yielding (e ∷ es) m (f .fit x)
-        (λ q. subst (λ w. T (inRange w)) (sym q) (yield-ranged e (f .fit e (among-second built (e ∷ es) Among.top))))
+    in-range : T (allOf inRange (built ++ (yielding ∷ e ∷ es)))
+    in-range = all-of inRange (built ++ (yielding ∷ e ∷ es)) (λ x m. among-parts x built yielding (e ∷ es) m
+        (λ i. ranged x (among-first built (e ∷ es) i))
+        (λ q. subst (λ w. T (inRange w)) (sym q) (yield-ranged e next-ranged))
+        (λ i. ranged x (among-second built (e ∷ es) i)))
 
     -- the recording with yield and record is orderly
     pub orderly-yield : Orderly ((built ++ (yielding ∷ [])) ++ (e ∷ []))
-    orderly-yield =
-        let whole : Orderly ((built ++ (yielding ∷ e ∷ [])) ++ es) = subst Orderly (sym together) (history-orderly (built ++ (yielding ∷ e ∷ es)) yielded in-range) in
-        subst Orderly (sym (append-snoc built yielding (e ∷ []))) (record {
-          ranges = λ x m. whole .ranges x (among-first (built ++ (yielding ∷ e ∷ [])) es m);
-          pairs = λ x y o. whole .pairs x y (before-first (built ++ (yielding ∷ e ∷ [])) es o);
-        })
+    orderly-yield = subst Orderly (sym (append-snoc built yielding (e ∷ [])))
+        (orderly-first (built ++ (yielding ∷ e ∷ [])) es (subst Orderly (sym together) (possible-orderly (built ++ (yielding ∷ e ∷ es)) yielded in-range)))
 
     fine-yield : Fine (built ++ (yielding ∷ e ∷ [])) es
     fine-yield = record {
       can = subst (λ l. T (possible fresh l)) (sym together) yielded;
-      fit = subst AllInRange (sym together) in-range;
+      fit = subst (λ l. T (allOf inRange l)) (sym together) in-range;
       acyclic = ap (λ l. cyclic (edges (labelled l))) (sym (append-snoc built yielding (e ∷ []))) ∙ after-none built e (f .acyclic) opened inside ahead;
     }
 
@@ -157,27 +139,11 @@ module _ (built : List Event) (e : Event) (es : List Event) (f : Fine built (e �
       (λ h. subst (λ l. Fine l es) (sym (grown-yield built e h)) (fine-yield h))
       (λ h. subst (λ l. Fine l es) (sym (grown-alone built e h)) (fine-alone h))
 
--- the whole walk
+-- all steps
 pub fine-end : (built es : List Event) → Fine built es → Fine (built ++ eventsIn (walked built es)) []
 unfolding walked
 fine-end built [] f = subst (λ l. Fine l []) (sym (append-nil built)) f
 fine-end built (e ∷ es) f = subst (λ l. Fine l []) (sym (grown-on built e es)) (fine-end (grown built e) es (fine-next built e es f))
-
--- ---- the input's records are left once the added yields are taken out
-
-pub given-left : (built es : List Event) → eventsIn (withoutYields (walked built es)) ≡ es
-unfolding walked withoutYields keep
-given-left built [] = refl
-given-left built (e ∷ es) = by (needsYield built e)
-    (λ h. ap (λ l. eventsIn (keep kept (l ++ walked (grown built e) es))) (placed-yield built e h)
-    ∙ ap eventsIn (keep-false kept (yieldFor e) (given e ∷ walked (grown built e) es) refl ∙ keep-true kept (given e) (walked (grown built e) es) refl)
-    ∙ ap (λ l. e ∷ l) (given-left (grown built e) es))
-    (λ h. ap (λ l. eventsIn (keep kept (l ++ walked (grown built e) es))) (placed-alone built e h)
-    ∙ ap eventsIn (keep-true kept (given e) (walked (grown built e) es) refl)
-    ∙ ap (λ l. e ∷ l) (given-left (grown built e) es))
-  where
-    kept : Placed → Bool
-    kept p = not (p .added)
 
 -- ---- room
 
@@ -213,3 +179,18 @@ room-end built k (e ∷ es) z h g =
     let a = stop-none built k e es z in
     let b = room-passed built e (a .0) in
     subst (λ l. (length l ≤ 1024) × (transactions l ≤ 512)) (sym (grown-on built e es)) (room-end (grown built e) (suc k) es (a .1) (b .0) (b .1))
+
+-- ---- the whole walk, from nothing on
+
+module _ (es : List Event) where
+  pub start-fine : T (possible fresh es) → T (allOf inRange es) → Fine [] es
+  unfolding labelledFrom edges cyclic someOf
+  start-fine can fit = record { can = can; fit = fit; acyclic = refl }
+
+  pub end-fine : T (possible fresh es) → T (allOf inRange es) → Fine (eventsIn (finished es)) []
+  unfolding finished
+  end-fine can fit = fine-end [] es (start-fine can fit)
+
+  pub limits : stop [] 0 es .number ≡ 0 → (length (eventsIn (finished es)) ≤ 1024) × (transactions (eventsIn (finished es)) ≤ 512)
+  unfolding finished transactions tallyFrom none-yet
+  limits room = room-end [] 0 es room (omega arith) (omega arith)

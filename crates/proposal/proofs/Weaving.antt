@@ -1,4 +1,4 @@
--- Laws of the finished recording as arrays hold it, event after event.
+-- Laws of the finished recording as events and marks, event after event.
 use Prim.Native.Nat.{ℕ, zero, suc, _+_, _*_, _≤_, _<_}
 use native.Mathlib.Omega.{arith}
 use native.Mathlib.Nat.{add-zero, zero-add, add-suc, suc-add}
@@ -9,12 +9,11 @@ use lib.ListN.{length, getD, length-append}
 use borrow.Author.Tests.{eq-eqb, ne-eqb}
 use Rattle.record.specs.declared.Event.{Event}
 use Rattle.record.specs.Record.{encoded}
-use Rattle.lists.specs.Lists.{keep, each, over}
+use Rattle.lists.specs.Lists.{keep, each, over, writtenAt}
 use Rattle.lists.proofs.Tests.{by, by-same}
-use Rattle.lists.proofs.Lists.{map-append, each-append, keep-true, keep-false}
-use Rattle.graph.specs.Engine.{pastEnd}
-use Rattle.checker.specs.Writing.{writtenAt}
-use Rattle.checker.proofs.Written.{written-start, written-more, length-written}
+use Rattle.lists.proofs.Lists.{map-append, each-append, keep-true, keep-false, keep-append}
+use Rattle.lists.proofs.Places.{written-start, written-more, length-written}
+use Rattle.graph.specs.Held.{pastEnd}
 use Rattle.proposal.specs.Walk.{Placed, given, yieldOf, yieldFor, eventsIn}
 use Rattle.proposal.specs.Proposed.{bytesOf, yieldsIn, linesFrom}
 use Rattle.proposal.specs.Weaving.{placedAs, woven, bytesIn}
@@ -35,10 +34,10 @@ bytes-append : (a b : List Placed) → bytesIn (a ++ b) ≡ bytesIn a ++ bytesIn
 unfolding bytesIn bytesOf
 bytes-append a b = ap (each encoded) (map-append (λ p. p .event) a b) ∙ each-append encoded (eventsIn a) (eventsIn b)
 
-pub bytes-next : (n : ℕ) (all : List Event) (marks : List ℕ)
-    → bytesIn (woven (suc n) all marks) ≡ bytesIn (woven n all marks) ++ bytesIn (placedAs (getD marks n 0) (getD all n pastEnd))
+pub bytes-next : (n : ℕ) (es : List Event) (marks : List ℕ)
+    → bytesIn (woven (suc n) es marks) ≡ bytesIn (woven n es marks) ++ bytesIn (placedAs (getD marks n 0) (getD es n pastEnd))
 unfolding woven
-bytes-next n all marks = bytes-append (woven n all marks) (placedAs (getD marks n 0) (getD all n pastEnd))
+bytes-next n es marks = bytes-append (woven n es marks) (placedAs (getD marks n 0) (getD es n pastEnd))
 
 pub bytes-one : (e : Event) → bytesIn (given e ∷ []) ≡ encoded e
 unfolding bytesIn bytesOf each
@@ -49,18 +48,18 @@ unfolding bytesIn bytesOf each
 bytes-two e = ap (λ l. encoded (yieldOf (e .thread)) ++ l) (append-nil (encoded e))
 
 -- the first of some have no more bytes
-pub bytes-rise : (i n : ℕ) (all : List Event) (marks : List ℕ) → i ≤ n → length (bytesIn (woven i all marks)) ≤ length (bytesIn (woven n all marks))
-bytes-rise i zero all marks h = subst (λ k. length (bytesIn (woven k all marks)) ≤ length (bytesIn (woven 0 all marks))) (sym none) (omega arith)
+pub bytes-rise : (i n : ℕ) (es : List Event) (marks : List ℕ) → i ≤ n → length (bytesIn (woven i es marks)) ≤ length (bytesIn (woven n es marks))
+bytes-rise i zero es marks h = subst (λ k. length (bytesIn (woven k es marks)) ≤ length (bytesIn (woven 0 es marks))) (sym none) (omega arith)
   where
     none : i ≡ 0
     none = omega arith
-bytes-rise i (suc n) all marks h = by-same i (suc n)
-    (λ q. subst (λ k. length (bytesIn (woven k all marks)) ≤ length (bytesIn (woven (suc n) all marks))) (sym q) (omega arith))
+bytes-rise i (suc n) es marks h = by-same i (suc n)
+    (λ q. subst (λ k. length (bytesIn (woven k es marks)) ≤ length (bytesIn (woven (suc n) es marks))) (sym q) (omega arith))
     (λ d. omega (
       arith,
-      bytes-rise i n all marks (least d),
-      ap length (bytes-next n all marks),
-      length-append (bytesIn (woven n all marks)) (bytesIn (placedAs (getD marks n 0) (getD all n pastEnd))),
+      bytes-rise i n es marks (least d),
+      ap length (bytes-next n es marks),
+      length-append (bytesIn (woven n es marks)) (bytesIn (placedAs (getD marks n 0) (getD es n pastEnd))),
     ))
   where
     least : (i ≡ suc n → ⊥) → i ≤ n
@@ -74,30 +73,41 @@ over-more old new more =
     ∙ written-start old (new ++ more)
 
 -- Writing under way: the first i of n events are written
-pub record Written (all : List Event) (marks out₀ out : List ℕ) (end i : ℕ) : Type 0 where
+pub record Written (es : List Event) (marks out₀ out : List ℕ) (end i : ℕ) : Type 0 where
   pub size : length out ≡ length out₀
-  pub place : end ≡ length (bytesIn (woven i all marks))
-  pub made : out ≡ over (bytesIn (woven i all marks)) out₀
+  pub place : end ≡ length (bytesIn (woven i es marks))
+  pub made : out ≡ over (bytesIn (woven i es marks)) out₀
 
-module _ (all : List Event) (marks out₀ : List ℕ) where
-  pub written-none : Written all marks out₀ out₀ 0 0
+module _ (es : List Event) (marks out₀ : List ℕ) where
+  pub written-none : Written es marks out₀ out₀ 0 0
   unfolding woven bytesIn bytesOf each over
   written-none = record { size = refl; place = refl; made = refl }
 
-  module _ (n : ℕ) (out : List ℕ) (end i : ℕ) (room : length (bytesIn (woven n all marks)) ≤ length out₀) (more : i < n) (w : Written all marks out₀ out end i) where
+  module _ (n : ℕ) (out : List ℕ) (end i : ℕ) (room : length (bytesIn (woven n es marks)) ≤ length out₀) (more : i < n) (w : Written es marks out₀ out end i) where
+    abbrev of : Event → List ℕ
+    of e = bytesIn (placedAs (getD marks i 0) e)
+
     abbrev next : List ℕ
-    next = bytesIn (placedAs (getD marks i 0) (getD all i pastEnd))
+    next = of (getD es i pastEnd)
 
-    pub written-room : end + length next ≤ length out
-    written-room = omega (arith, w .size, w .place, bytes-rise (suc i) n all marks more, ap length (bytes-next i all marks), length-append (bytesIn (woven i all marks)) next)
+    room-next : end + length next ≤ length out
+    room-next = omega (arith, w .size, w .place, bytes-rise (suc i) n es marks more, ap length (bytes-next i es marks), length-append (bytesIn (woven i es marks)) next)
 
-    pub written-next : (out′ : List ℕ) (end′ : ℕ) → end′ ≡ end + length next → out′ ≡ writtenAt out end next → Written all marks out₀ out′ end′ (suc i)
-    written-next out′ end′ p q = record {
-      size = ap length q ∙ length-written out end next written-room ∙ w .size;
-      place = omega (arith, p, w .place, ap length (bytes-next i all marks), length-append (bytesIn (woven i all marks)) next);
-      made = q ∙ ap₂ (λ l k. writtenAt l k next) (w .made) (w .place) ∙ over-more out₀ (bytesIn (woven i all marks)) next
-          ∙ ap (λ l. over l out₀) (sym (bytes-next i all marks));
+    go-next : (out′ : List ℕ) (end′ : ℕ) → end′ ≡ end + length next → out′ ≡ writtenAt out end next → Written es marks out₀ out′ end′ (suc i)
+    go-next out′ end′ p q = record {
+      size = ap length q ∙ length-written out end next room-next ∙ w .size;
+      place = omega (arith, p, w .place, ap length (bytes-next i es marks), length-append (bytesIn (woven i es marks)) next);
+      made = q ∙ ap₂ (λ l k. writtenAt l k next) (w .made) (w .place) ∙ over-more out₀ (bytesIn (woven i es marks)) next
+          ∙ ap (λ l. over l out₀) (sym (bytes-next i es marks));
     }
+
+    -- the event as it was read
+    module _ (e : Event) (is : e ≡ getD es i pastEnd) where
+      pub written-room : end + length (of e) ≤ length out
+      written-room = subst (λ x. end + length (of x) ≤ length out) (sym is) room-next
+
+      pub written-next : (out′ : List ℕ) (end′ : ℕ) → end′ ≡ end + length (of e) → out′ ≡ writtenAt out end (of e) → Written es marks out₀ out′ end′ (suc i)
+      written-next out′ end′ p q = go-next out′ end′ (p ∙ ap (λ x. end + length (of x)) is) (q ∙ ap (λ x. writtenAt out end (of x)) is)
 
 -- ---- lines
 
@@ -130,63 +140,56 @@ lines-append k (p ∷ a) b = by (p .added)
     ∙ ap (λ n. linesFrom (suc k) a ++ linesFrom (k + n) b) (sym (ap length (keep-true isGiven p a (ap not h))))
     ∙ ap (λ l. l ++ linesFrom (k + givens (p ∷ a)) b) (sym (lines-given k p a h)))
 
-keep-append : (q : Placed → Bool) (a b : List Placed) → keep q (a ++ b) ≡ keep q a ++ keep q b
-unfolding keep
-keep-append q [] b = refl
-keep-append q (p ∷ a) b = by (q p)
-    (λ h. keep-true q p (a ++ b) h ∙ ap (λ l. p ∷ l) (keep-append q a b) ∙ ap (λ l. l ++ keep q b) (sym (keep-true q p a h)))
-    (λ h. keep-false q p (a ++ b) h ∙ keep-append q a b ∙ ap (λ l. l ++ keep q b) (sym (keep-false q p a h)))
-
 -- as many of the input as events
-givens-woven : (n : ℕ) (all : List Event) (marks : List ℕ) → givens (woven n all marks) ≡ n
+givens-woven : (n : ℕ) (es : List Event) (marks : List ℕ) → givens (woven n es marks) ≡ n
 unfolding woven keep
-givens-woven zero all marks = refl
-givens-woven (suc n) all marks =
-    let w : List Placed = woven n all marks in
-    let e : Event = getD all n pastEnd in
+givens-woven zero es marks = refl
+givens-woven (suc n) es marks =
+    let w : List Placed = woven n es marks in
+    let e : Event = getD es n pastEnd in
     let m : ℕ = getD marks n 0 in
     let one : length (keep isGiven (placedAs m e)) ≡ 1 = by-same m 0
     (λ q. ap (λ l. length (keep isGiven l)) (placed-unmarked m e q) ∙ ap length (keep-true isGiven (given e) [] refl))
     (λ d. ap (λ l. length (keep isGiven l)) (placed-marked m e d) ∙ ap length (keep-false isGiven (yieldFor e) (given e ∷ []) refl ∙ keep-true isGiven (given e) [] refl)) in
-    omega (arith, ap length (keep-append isGiven w (placedAs m e)), length-append (keep isGiven w) (keep isGiven (placedAs m e)), one, givens-woven n all marks)
+    omega (arith, ap length (keep-append isGiven w (placedAs m e)), length-append (keep isGiven w) (keep isGiven (placedAs m e)), one, givens-woven n es marks)
 
 -- The lines of the first i events are written, and their yields counted
-pub record Told (all : List Event) (marks lines₀ lines : List ℕ) (yields i : ℕ) : Type 0 where
+pub record Told (es : List Event) (marks lines₀ lines : List ℕ) (yields i : ℕ) : Type 0 where
   pub size : length lines ≡ length lines₀
   pub most : yields ≤ i
-  pub count : yields ≡ length (yieldsIn (woven i all marks))
-  pub place : 2 * yields ≡ length (linesFrom 0 (woven i all marks))
-  pub made : lines ≡ over (linesFrom 0 (woven i all marks)) lines₀
+  pub count : yields ≡ length (yieldsIn (woven i es marks))
+  pub place : 2 * yields ≡ length (linesFrom 0 (woven i es marks))
+  pub made : lines ≡ over (linesFrom 0 (woven i es marks)) lines₀
 
-module _ (all : List Event) (marks lines₀ : List ℕ) where
-  pub told-none : Told all marks lines₀ lines₀ 0 0
+module _ (es : List Event) (marks lines₀ : List ℕ) where
+  pub told-none : Told es marks lines₀ lines₀ 0 0
   unfolding woven linesFrom yieldsIn keep over
   told-none = record { size = refl; most = omega arith; count = refl; place = refl; made = refl }
 
-  module _ (lines : List ℕ) (yields i : ℕ) (t : Told all marks lines₀ lines yields i) where
+  module _ (lines : List ℕ) (yields i : ℕ) (t : Told es marks lines₀ lines yields i) where
     abbrev e : Event
-    e = getD all i pastEnd
+    e = getD es i pastEnd
 
     abbrev mark : ℕ
     mark = getD marks i 0
 
     abbrev before : List Placed
-    before = woven i all marks
+    before = woven i es marks
 
-    lines-next : linesFrom 0 (woven (suc i) all marks) ≡ linesFrom 0 before ++ linesFrom i (placedAs mark e)
+    lines-next : linesFrom 0 (woven (suc i) es marks) ≡ linesFrom 0 before ++ linesFrom i (placedAs mark e)
     unfolding woven
-    lines-next = lines-append 0 before (placedAs mark e) ∙ ap (λ n. linesFrom 0 before ++ linesFrom n (placedAs mark e)) (zero-add (givens before) ∙ givens-woven i all marks)
+    lines-next = lines-append 0 before (placedAs mark e) ∙ ap (λ n. linesFrom 0 before ++ linesFrom n (placedAs mark e)) (zero-add (givens before) ∙ givens-woven i es marks)
 
-    yields-next : length (yieldsIn (woven (suc i) all marks)) ≡ length (yieldsIn before) + length (yieldsIn (placedAs mark e))
+    yields-next : length (yieldsIn (woven (suc i) es marks)) ≡ length (yieldsIn before) + length (yieldsIn (placedAs mark e))
     unfolding woven yieldsIn
     yields-next = ap length (keep-append (λ p. p .added) before (placedAs mark e)) ∙ length-append (keep (λ p. p .added) before) (keep (λ p. p .added) (placedAs mark e))
 
     -- an event without a yield
-    pub told-unmarked : mark ≡ 0 → Told all marks lines₀ lines yields (suc i)
+    pub told-unmarked : mark ≡ 0 → Told es marks lines₀ lines yields (suc i)
     unfolding linesFrom yieldsIn keep
     told-unmarked h =
         let none : linesFrom i (placedAs mark e) ≡ [] = ap (linesFrom i) (placed-unmarked mark e h) in
-        let same : linesFrom 0 (woven (suc i) all marks) ≡ linesFrom 0 before = lines-next ∙ ap (λ l. linesFrom 0 before ++ l) none ∙ append-nil (linesFrom 0 before) in
+        let same : linesFrom 0 (woven (suc i) es marks) ≡ linesFrom 0 before = lines-next ∙ ap (λ l. linesFrom 0 before ++ l) none ∙ append-nil (linesFrom 0 before) in
         let no-yield : length (yieldsIn (placedAs mark e)) ≡ 0 = ap (λ l. length (yieldsIn l)) (placed-unmarked mark e h) in
         record {
           size = t .size;
@@ -198,12 +201,12 @@ module _ (all : List Event) (marks lines₀ : List ℕ) where
 
     -- and one with a yield
     pub told-marked : (lines′ : List ℕ) → (mark ≡ 0 → ⊥) → 2 * yields + 2 ≤ length lines → lines′ ≡ writtenAt lines (2 * yields) (e .thread ∷ i ∷ [])
-        → Told all marks lines₀ lines′ (suc yields) (suc i)
+        → Told es marks lines₀ lines′ (suc yields) (suc i)
     unfolding linesFrom yieldsIn keep
     told-marked lines′ h room q =
         let new : List ℕ = e .thread ∷ i ∷ [] in
         let is : linesFrom i (placedAs mark e) ≡ new = ap (linesFrom i) (placed-marked mark e h) in
-        let all-lines : linesFrom 0 (woven (suc i) all marks) ≡ linesFrom 0 before ++ new = lines-next ∙ ap (λ l. linesFrom 0 before ++ l) is in
+        let all-lines : linesFrom 0 (woven (suc i) es marks) ≡ linesFrom 0 before ++ new = lines-next ∙ ap (λ l. linesFrom 0 before ++ l) is in
         let a-yield : length (yieldsIn (placedAs mark e)) ≡ 1 = ap (λ l. length (yieldsIn l)) (placed-marked mark e h) in
         record {
           size = ap length q ∙ length-written lines (2 * yields) new room ∙ t .size;

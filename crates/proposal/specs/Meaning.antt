@@ -5,10 +5,10 @@ use mathlib.Core.Bool.{not}
 use mathlib.Core.List.{List, _∷_, _++_}
 use lib.ListN.{length, take}
 use lib.Dec.{T}
-use Rattle.record.specs.declared.Event.{Event}
 use Rattle.lists.specs.Lists.{keep}
-use Rattle.checker.specs.Verdict.{Numbers}
-use Rattle.checker.specs.Refusals.{events}
+use Rattle.record.specs.declared.Event.{Event}
+use Rattle.record.specs.Answers.{Numbers}
+use Rattle.looking.specs.Refusals.{events}
 use Rattle.checker.specs.Judged.{judged}
 use Rattle.proposal.specs.Walk.{Placed, given, yieldFor, eventsIn, finished}
 use Rattle.proposal.specs.Proposed.{bytesOf, proposed}

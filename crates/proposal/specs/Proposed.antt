@@ -5,14 +5,14 @@ use mathlib.Core.Bool.{true, false}
 use mathlib.Core.List.{List, [], _∷_, _++_}
 use lib.ListN.{length, replicate}
 use lib.Dec.{leb}
-use Rattle.record.specs.declared.Event.{Event}
-use Rattle.record.specs.Faults.{Check, check, firstFault}
-use Rattle.record.specs.Record.{encoded, recordsOf}
 use Rattle.lists.specs.Lists.{keep, each, over}
-use Rattle.graph.specs.Arranged.{workSize}
-use Rattle.checker.specs.Verdict.{Numbers}
-use Rattle.checker.specs.Examined.{inputChecks}
-use Rattle.checker.specs.Refusals.{Fault, start, firstRefusal, events}
+use Rattle.record.specs.declared.Event.{Event}
+use Rattle.record.specs.declared.Refusal.{Refusal}
+use Rattle.record.specs.Faults.{Check, check}
+use Rattle.record.specs.Record.{encoded}
+use Rattle.record.specs.Answers.{Numbers, refusedAs, Ending}
+use Rattle.graph.specs.Transactions.{workSize}
+use Rattle.looking.specs.Refusals.{inputChecks, refusedBy, events}
 use Rattle.proposal.specs.declared.Proposed.{Proposed}
 use Rattle.proposal.specs.declared.Proposed.the-variants.{Finished, Refused}
 use Rattle.proposal.specs.Walk.{Placed, eventsIn, finished, stop}
@@ -20,16 +20,15 @@ use Rattle.proposal.specs.Walk.{Placed, eventsIn, finished, stop}
 -- This paper's number and values for each case.  0 proposed: the number of bytes written, and of yields added.  2 refused: number and record
 abbrev pub numbers : Proposed → Numbers
 numbers (Finished bytes yields) = record { kind = 0; first = bytes; second = yields }
-numbers (Refused r) = record { kind = 2; first = r .number; second = r .record }
+numbers (Refused r) = refusedAs r
 
--- 1 to 4, tried in that order: as the checker's, but for 3
+-- 1 to 4, tried in that order: as judging does, but for 3
 unfoldable pub sizeChecks : List ℕ → List ℕ → List ℕ → List Check
 sizeChecks input out work = inputChecks input ++ (check 3 0 (leb 8192 (length out)) ∷ check 4 0 (leb workSize (length work)) ∷ [])
 
 -- 1 to 4, then 5 to 13 of the whole input
-unfoldable pub refusal : List ℕ → List ℕ → List ℕ → Fault
-refusal input out work =
-    elim (firstFault (sizeChecks input out work)) [ zero ↦ firstRefusal start 0 (recordsOf input) | suc n ↦ record { number = suc n; place = 0 } ]
+abbrev pub refusal : List ℕ → List ℕ → List ℕ → Refusal
+refusal input out work = refusedBy (sizeChecks input out work) input
 
 -- the bytes of a recording, and the yields added to it
 unfoldable pub bytesOf : List Event → List ℕ
@@ -37,12 +36,6 @@ bytesOf es = each encoded es
 
 unfoldable pub yieldsIn : List Placed → List Placed
 yieldsIn ps = keep (λ p. p .added) ps
-
--- The answer, the output and the work area at the end
-pub record Ending : Type 0 where
-  pub answer : Numbers
-  pub out : List ℕ
-  pub work : List ℕ
 
 -- the finished recording is written over the output
 unfoldable pub done : List Placed → List ℕ → List ℕ → Ending
@@ -52,16 +45,16 @@ done ps out work = record {
   work = over (replicate workSize 0) work;
 }
 
-abbrev pub refused : Fault → List ℕ → List ℕ → Ending
-refused f out work = record { answer = record { kind = 2; first = f .number; second = f .place }; out = out; work = work }
+abbrev pub refused : Refusal → List ℕ → List ℕ → Ending
+refused r out work = record { answer = refusedAs r; out = out; work = work }
 
 -- Refused before the walk: output and work area keep their contents. Refused in it: the output does, and the first 4,096 numbers of the work area are 0
 unfoldable pub proposed : List ℕ → List ℕ → List ℕ → Ending
 proposed input out work =
-    let no : Fault = refusal input out work in
+    let no : Refusal = refusal input out work in
     elim (no .number) [
       | zero ↦
-          let full : Fault = stop [] 0 (events input) in
+          let full : Refusal = stop [] 0 (events input) in
           elim (full .number) [
             | zero ↦ done (finished (events input)) out work
             | suc n ↦ refused full out (over (replicate workSize 0) work)
@@ -82,5 +75,5 @@ told input out work old = elim (proposed input out work .answer .kind) [ zero �
 
 -- Everything above, opened at once, for a proof by computation: `unfolding opened`
 unfoldable pub opened : Unit {0}
-unfolding sizeChecks refusal bytesOf yieldsIn done proposed linesFrom told
+unfolding sizeChecks bytesOf yieldsIn done proposed linesFrom told
 opened = tt

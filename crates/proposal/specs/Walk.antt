@@ -7,11 +7,12 @@ use lib.ListN.{length}
 use lib.Dec.{leb}
 use Rattle.record.specs.declared.Event.{Event}
 use Rattle.record.specs.declared.Op.the-variants.{Yield}
+use Rattle.record.specs.declared.Refusal.{Refusal}
 use Rattle.record.specs.Faults.{Check, check, firstFault}
 use Rattle.trace.specs.Paths.{cyclic}
 use Rattle.graph.specs.Transactions.{labelled, transactions, transactionLimit}
 use Rattle.graph.specs.Edges.{edges}
-use Rattle.checker.specs.Refusals.{Fault, noFault}
+use Rattle.looking.specs.Refusals.{noRefusal}
 
 -- A record of the recording that is built: its event, and whether it is an added yield
 pub record Placed : Type 0 where
@@ -64,8 +65,8 @@ roomChecks built e =
     ∷ []
 
 -- the first input record where there is no room decides. k is the number of the first that is still to come
-unfoldable pub stop : List Event → ℕ → List Event → Fault
-stop built k [] = noFault
+unfoldable pub stop : List Event → ℕ → List Event → Refusal
+stop built k [] = noRefusal
 stop built k (e ∷ es) =
     elim (firstFault (roomChecks built e)) [ zero ↦ stop (grown built e) (suc k) es | suc n ↦ record { number = suc n; place = k } ]
 

@@ -1,19 +1,20 @@
 // The walk: which records of a possible history would be violations, after the recording built so far, and whether there is room.
-use checker::Refusal;
+use crate::reading;
 use graph::Numbered;
 use record::Event;
 use record::Op;
+use record::Refusal;
 ghost use Prim.Native.Nat.{_<_, _≤_};
 ghost use mathlib.Core.Path.{_≡_};
-ghost use mathlib.Core.Bool.{not};
 ghost use lib.Dec.{T};
-ghost use lib.ListN.{length, take};
+ghost use lib.ListN.{length};
 ghost use Rattle.record.specs.Record.{inRange};
 ghost use Rattle.replay.specs.Machine.{fresh, possible};
 ghost use Rattle.lists.specs.Lists.{allOf};
-ghost use Rattle.graph.specs.Transactions.{tallyOf, full};
-ghost use Rattle.thin.specs.Cells.{cellsOf};
-ghost use Rattle.proposal.specs.Keeping.{keptOf, needing, putIn, stepAs, lastIn, stepping, Stepping, Walked};
+ghost use Rattle.graph.specs.Transactions.{tallyOf};
+ghost use Rattle.looking.specs.Refusals.{events};
+ghost use Rattle.second.specs.Cells.{cellsOf};
+ghost use Rattle.proposal.specs.Keeping.{keptOf, needing, fullAs, putIn, stepAs, readied, stepping, Stepping, Walked};
 
 // Whether an event would be a violation: it begins no transaction and closes a cycle.
 fn needs_yield(
@@ -29,17 +30,29 @@ fn needs_yield(
     ensures { λ r. ⌜ r ≡ needing (cellsOf (now (locks .entry)) (now (threads .entry)) (now (writers .entry)) (now (readers .entry))) (now (work .entry)) (now (current .entry)) e ⌝ }
 {
     let op = e.op;
+    let kind = record::kind_of(op);
     let own = current[e.thread as usize];
-    if record::kind_of(op) == 9 {
+    if kind == 9 {
         return false;
     }
     if own == 0 {
         return false;
     }
-    thin::closes(locks, threads, writers, readers, work, own - 1, e)
+    let target = record::target_of(op);
+    second::closes(
+        locks,
+        threads,
+        writers,
+        readers,
+        work,
+        own - 1,
+        e.thread,
+        kind,
+        target,
+    )
 }
 
-// Puts an event after the recording built so far. False: it would begin a 513th transaction, and nothing changes.
+// Puts an event after the recording built so far. The number is 0; or 13, where it would begin a 513th transaction, and then nothing changes.
 fn put<'a>(
     locks: &'a mut [u16; 32],
     threads: &'a mut [u16; 16],
@@ -49,27 +62,32 @@ fn put<'a>(
     current: &'a mut [u16; 16],
     begun: &'a mut u16,
     e: Event,
-) -> bool
-    ensures { λ r. ⌜ (r ≡ not (full (tallyOf (now (current .entry)) (now (begun .entry))) e))
+) -> u8
+    ensures { λ r. ⌜ (r ≡ fullAs (tallyOf (now (current .entry)) (now (begun .entry))) e)
         × (keptOf (cellsOf (now (locks .exit)) (now (threads .exit)) (now (writers .exit)) (now (readers .exit))) (now (work .exit)) (now (current .exit)) (now (begun .exit))
         ≡ putIn (keptOf (cellsOf (now (locks .entry)) (now (threads .entry)) (now (writers .entry)) (now (readers .entry))) (now (work .entry)) (now (current .entry)) (now (begun .entry))) e) ⌝ }
 {
-    match graph::number(&mut *current, &mut *begun, e) {
+    match graph::number(current, begun, e) {
         Numbered::Of(a) => {
             let n = *begun;
-            thin::take(
-                &mut *locks,
-                &mut *threads,
-                &mut *writers,
-                &mut *readers,
-                &mut *work,
+            let op = e.op;
+            let kind = record::kind_of(op);
+            let target = record::target_of(op);
+            second::take(
+                locks,
+                threads,
+                writers,
+                readers,
+                work,
                 n,
                 a,
-                e,
+                e.thread,
+                kind,
+                target,
             );
-            true
+            0
         }
-        Numbered::Full => false,
+        Numbered::Full => 13,
     }
 }
 
@@ -79,8 +97,8 @@ pub struct Step {
     pub mark: u8,
 }
 
-// Puts the event of a step, after the yield where there is one.
-fn put_last<'a>(
+// Makes room for an event after the `built` records so far: puts a yield of its thread where it needs one.
+fn make_room<'a>(
     locks: &'a mut [u16; 32],
     threads: &'a mut [u16; 16],
     writers: &'a mut [u16; 256],
@@ -88,25 +106,43 @@ fn put_last<'a>(
     work: &'a mut [u64],
     current: &'a mut [u16; 16],
     begun: &'a mut u16,
-    mark: u8,
+    built: usize,
     e: Event,
 ) -> Step
+    requires { ⌜ e .thread < 16 ⌝ }
     ensures { λ r. ⌜ _≡_ {A = Stepping} (stepAs (r .number) (r .mark) (keptOf (cellsOf (now (locks .exit)) (now (threads .exit)) (now (writers .exit)) (now (readers .exit))) (now (work .exit)) (now (current .exit)) (now (begun .exit))))
-        (lastIn mark (keptOf (cellsOf (now (locks .entry)) (now (threads .entry)) (now (writers .entry)) (now (readers .entry))) (now (work .entry)) (now (current .entry)) (now (begun .entry))) e) ⌝ }
+        (readied built (keptOf (cellsOf (now (locks .entry)) (now (threads .entry)) (now (writers .entry)) (now (readers .entry))) (now (work .entry)) (now (current .entry)) (now (begun .entry))) e) ⌝ }
 {
-    if put(
-        &mut *locks,
-        &mut *threads,
-        &mut *writers,
-        &mut *readers,
-        &mut *work,
-        &mut *current,
-        &mut *begun,
-        e,
-    ) {
-        return Step { number: 0, mark };
+    if needs_yield(locks, threads, writers, readers, work, current, e) {
+        if 1022 < built {
+            return Step {
+                number: 15,
+                mark: 1,
+            };
+        }
+        let added = Event {
+            thread: e.thread,
+            op: Op::Yield,
+        };
+        put(
+            locks,
+            threads,
+            writers,
+            readers,
+            work,
+            current,
+            begun,
+            added,
+        );
+        return Step { number: 0, mark: 1 };
     }
-    Step { number: 13, mark }
+    if 1023 < built {
+        return Step {
+            number: 15,
+            mark: 0,
+        };
+    }
+    Step { number: 0, mark: 0 }
 }
 
 // Puts an event, and before it a yield of its thread where it needs one, after the `built` records so far.
@@ -125,71 +161,31 @@ fn place<'a>(
     ensures { λ r. ⌜ _≡_ {A = Stepping} (stepAs (r .number) (r .mark) (keptOf (cellsOf (now (locks .exit)) (now (threads .exit)) (now (writers .exit)) (now (readers .exit))) (now (work .exit)) (now (current .exit)) (now (begun .exit))))
         (stepping built (keptOf (cellsOf (now (locks .entry)) (now (threads .entry)) (now (writers .entry)) (now (readers .entry))) (now (work .entry)) (now (current .entry)) (now (begun .entry))) e) ⌝ }
 {
-    if needs_yield(
-        &*locks,
-        &*threads,
-        &*writers,
-        &*readers,
-        &*work,
-        &*current,
+    let room = make_room(
+        locks,
+        threads,
+        writers,
+        readers,
+        work,
+        current,
+        begun,
+        built,
         e,
-    ) {
-        if 1022 < built {
-            return Step {
-                number: 15,
-                mark: 1,
-            };
-        }
-        let added = Event {
-            thread: e.thread,
-            op: Op::Yield,
-        };
-        put(
-            &mut *locks,
-            &mut *threads,
-            &mut *writers,
-            &mut *readers,
-            &mut *work,
-            &mut *current,
-            &mut *begun,
-            added,
-        );
-        return put_last(
-            &mut *locks,
-            &mut *threads,
-            &mut *writers,
-            &mut *readers,
-            &mut *work,
-            &mut *current,
-            &mut *begun,
-            1,
-            e,
-        );
+    );
+    if room.number != 0 {
+        return room;
     }
-    if 1023 < built {
-        return Step {
-            number: 15,
-            mark: 0,
-        };
-    }
-    put_last(
-        &mut *locks,
-        &mut *threads,
-        &mut *writers,
-        &mut *readers,
-        &mut *work,
-        &mut *current,
-        &mut *begun,
-        0,
-        e,
-    )
+    let mark = room.mark;
+    let number = put(locks, threads, writers, readers, work, current, begun, e);
+    Step { number, mark }
 }
 
-// Walks over the first `count` events of a possible history, and marks each that a yield is put before. The answer is where there is no room; a number 0 is
-// none. The work area's first 4,096 numbers are left with the rows.
-pub fn walk(all: [Event; 1024], count: usize, marks: &mut [u8], work: &mut [u64]) -> Refusal
-    requires { ⌜ (count ≤ 1024) × (length (now marks) ≡ 1024) × (4096 ≤ length (now work)) × T (possible fresh (take count all)) × T (allOf inRange (take count all)) ⌝ }
-    ensures { λ r. ⌜ Walked count all (now (marks .exit)) (now (work .entry)) (now (work .exit)) r ⌝ }
+// Walks over the events of a possible history, and marks each that a yield is put before. The answer is where there is no room; a number 0 is none.
+// The work area's first 4,096 numbers are left with the rows.
+pub fn walk(input: &[u8], marks: &mut [u8], work: &mut [u64]) -> Refusal
+    requires { ⌜ (length (now input) ≤ 8192) × (length (now marks) ≡ 1024) × (4096 ≤ length (now work))
+        × T (possible fresh (events (now input))) × T (allOf inRange (events (now input))) ⌝ }
+    ensures { λ r. ⌜ Walked (events (now (input .entry))) (now (marks .exit)) (now (work .entry)) (now (work .exit)) r ⌝ }
 {
     rows::begin(work, 512);
     let mut locks = [0u16; 32];
@@ -199,6 +195,7 @@ pub fn walk(all: [Event; 1024], count: usize, marks: &mut [u8], work: &mut [u64]
     let mut current = [0u16; 16];
     let mut begun = 0u16;
     let mut built = 0;
+    let count = input.len() / 8;
     let mut i = 0;
     while i < count {
         let step = place(
@@ -210,12 +207,12 @@ pub fn walk(all: [Event; 1024], count: usize, marks: &mut [u8], work: &mut [u64]
             &mut current,
             &mut begun,
             built,
-            all[i],
+            reading::event_at(input, i),
         );
         let number = step.number;
         let mark = step.mark;
         if number != 0 {
-            return Refusal { number, record: i };
+            return Refusal { number, place: i };
         }
         marks[i] = mark;
         built += 1 + mark as usize;
@@ -223,6 +220,6 @@ pub fn walk(all: [Event; 1024], count: usize, marks: &mut [u8], work: &mut [u64]
     }
     Refusal {
         number: 0,
-        record: 0,
+        place: 0,
     }
 }

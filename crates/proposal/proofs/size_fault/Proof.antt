@@ -4,7 +4,7 @@ use mathlib.Core.Path.{sym, _∙_}
 use lib.ListN.{length}
 use borrow.Author.Tests.{le-leb, lt-leb}
 use Rattle.record.specs.Faults.{firstFault}
-use Rattle.checker.proofs.Finding.{inputs-first, inputs-next}
+use Rattle.looking.proofs.Refusing.{inputs-first, inputs-next}
 use Rattle.proposal.specs.Proposed.{sizeChecks}
 use borrow.Author.Needs.{needs}
 use Rattle.proposal.proofs.size_fault.Statement.{statement}

@@ -5,6 +5,9 @@ use borrow.Author.Needs.{needs}
 use Rattle.proposal.proofs.walking.needs_yield.Statement.{statement}
 use Rattle.proposal.proofs.walking.needs_yield.Tie as tie
 
+kind-of-requires : tie.Need-kind-of-requires
+kind-of-requires c κs = search needs
+
 cast-own : tie.Need-cast-own
 cast-own c = search needs
 
@@ -14,14 +17,14 @@ mul-own c = search needs
 element-copy-out-own : tie.Need-element-copy-out-own
 element-copy-out-own c = search needs
 
-kind-of-requires : tie.Need-kind-of-requires
-kind-of-requires c κs = search needs
-
 returns : tie.Need-returns
-returns c = needing-join _ _ _ _ (sym (c .before .kind-of .ensures) ∙ c .if1 .taken)
+returns c = needing-join _ _ _ _ (sym (c .before .before .before .kind-of .ensures) ∙ c .if1 .taken)
 
 returns-2 : tie.Need-returns-2
-returns-2 c = needing-first _ _ _ _ (λ q. c .before .if1 .left (c .before .before .kind-of .ensures ∙ q)) (c .if2 .taken)
+returns-2 c = needing-first _ _ _ _ (λ q. c .before .if1 .left (c .before .before .before .before .kind-of .ensures ∙ q)) (c .if2 .taken)
+
+target-of-requires : tie.Need-target-of-requires
+target-of-requires c κs = search needs
 
 sub-closes : tie.Need-sub-closes
 sub-closes c = search needs
@@ -30,18 +33,21 @@ closes-requires : tie.Need-closes-requires
 closes-requires c κs = search needs
 
 returns-3 : tie.Need-returns-3
-returns-3 c = c .closes .ensures ∙ needing-open _ _ _ _ (λ q. c .before .before .if1 .left (c .before .before .before .kind-of .ensures ∙ q)) (c .before .if2 .left)
+returns-3 c =
+    let k = c .before .before .before .before .before .before .kind-of .ensures in
+    c .closes .ensures ∙ needing-open _ _ _ _ (λ q. c .before .before .before .if1 .left (k ∙ q)) _ _ k (c .before .target-of .ensures) (c .before .before .if2 .left)
 
 pub needs-yield-spec : {M : Type 1} → statement M
 needs-yield-spec =
     tie.close
     (tie.spec
+    kind-of-requires
     cast-own
     mul-own
     element-copy-out-own
-    kind-of-requires
     returns
     returns-2
+    target-of-requires
     sub-closes
     closes-requires
     returns-3)

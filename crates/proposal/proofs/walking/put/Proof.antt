@@ -11,6 +11,12 @@ number-requires c κs = search needs
 enum-known-a : tie.Need-enum-known-a
 enum-known-a c = search needs
 
+kind-of-requires : tie.Need-kind-of-requires
+kind-of-requires c κs = search needs
+
+target-of-requires : tie.Need-target-of-requires
+target-of-requires c κs = search needs
+
 take-requires : tie.Need-take-requires
 take-requires c κs = search needs
 
@@ -22,8 +28,10 @@ same-length c = search needs
 
 returns : tie.Need-returns
 returns c =
-    let n = c .before .before .before .before .before .before .before .before .before .before .before .before .number in
-    put-taken _ _ _ _ _ _ (sym (n .ensures .0) ∙ c .before .before .before .before .before .before .before .before .before .before .a .given .1) (n .ensures .1) (c .before .before .take .ensures .1)
+    let n = c .before .before .before .before .before .before .before .before .before .before .before .before .before .before .number in
+    let k = c .before .before .before .before .before .before .before .before .before .kind-of .ensures in
+    let x = c .before .before .before .before .before .before .before .before .target-of .ensures in
+    put-taken _ _ _ _ _ _ _ _ k x (sym (n .ensures .0) ∙ c .before .before .before .before .before .before .before .before .before .before .before .before .a .given .1) (n .ensures .1) (c .before .before .take .ensures .1)
 
 returns-2 : tie.Need-returns-2
 returns-2 c = let n = c .before .before .number in put-full _ _ _ (sym (n .ensures .0) ∙ c .enum-told .given .1) (n .ensures .1)
@@ -31,4 +39,13 @@ returns-2 c = let n = c .before .before .number in put-full _ _ _ (sym (n .ensur
 pub put-spec : {M : Type 1} → statement M
 put-spec =
     tie.close
-    (tie.spec number-requires enum-known-a take-requires enum-told same-length returns returns-2)
+    (tie.spec
+    number-requires
+    enum-known-a
+    kind-of-requires
+    target-of-requires
+    take-requires
+    enum-told
+    same-length
+    returns
+    returns-2)

@@ -1,12 +1,9 @@
 -- `proposal::writing::write_event` meets its contract: the event is written into the rest of the output.
-use Prim.Native.Nat.{_+_, _≤_}
+use Prim.Native.Nat.{_+_}
 use native.Mathlib.Omega.{arith}
 use mathlib.Core.Path.{ap, _∙_}
-use lib.ListN.{length}
-use Rattle.record.specs.declared.Event.{Event}
-use Rattle.record.specs.Record.{encoded}
-use Rattle.record.proofs.Laws.{size-most, length-encoded}
-use Rattle.checker.proofs.Written.{written-part, written-size}
+use Rattle.record.proofs.Laws.{size-most}
+use Rattle.record.proofs.Written.{written-size, written-part}
 use borrow.Author.Needs.{needs}
 use Rattle.proposal.proofs.writing.write_event.Statement.{statement}
 use Rattle.proposal.proofs.writing.write_event.Tie as tie
@@ -33,9 +30,8 @@ returns : tie.Need-returns
 returns c =
     let a = c .before .before .before .before .before .args in
     let w = c .before .before .encode .ensures in
-    let e : Event = a .e in
-    let room : a .n + length (encoded e) ≤ length (a .out .now) = omega (arith, length-encoded e) in
-    (ap (λ k. a .n + k) (w .0 ∙ written-size e (a .out .now) (a .n) room ∙ length-encoded e), written-part e (a .out .now) (a .n) room _ (w .1))
+    let room = c .before .before .before .before .before .pre in
+    (ap (λ k. a .n + k) (w .0 ∙ written-size (a .e) (a .out .now) (a .n) room), written-part (a .e) (a .out .now) (a .n) room _ (w .1))
 
 pub write-event-spec : {M : Type 1} → statement M
 write-event-spec =

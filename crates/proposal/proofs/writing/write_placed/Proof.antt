@@ -6,8 +6,8 @@ use mathlib.Core.List.{List, _++_}
 use lib.ListN.{length, length-append}
 use Rattle.record.specs.Record.{encoded}
 use Rattle.record.proofs.Laws.{length-encoded}
-use Rattle.checker.specs.Writing.{writtenAt}
-use Rattle.checker.proofs.Written.{written-more, length-written}
+use Rattle.lists.specs.Lists.{writtenAt}
+use Rattle.lists.proofs.Places.{written-more, length-written}
 use Rattle.proposal.specs.Walk.{yieldOf}
 use Rattle.proposal.specs.Weaving.{placedAs, bytesIn}
 use Rattle.proposal.proofs.Weaving.{placed-unmarked, placed-marked, bytes-one, bytes-two}
