@@ -14,13 +14,12 @@ use Rattle.lists.proofs.Lists.{Earliest, earliest, before-at}
 use Rattle.graph.specs.Conflict.{conflict}
 use Rattle.graph.specs.Transactions.{none-yet, Labelled, labelled}
 use Rattle.graph.specs.Violation.{edgesUpTo, cyclicUpTo, shortest, transactionAt, cycleOf}
-use Rattle.graph.specs.Engine.{pastEnd, labelledAs}
 use Rattle.graph.specs.Rule.{Follows, Reported}
 use Rattle.graph.proofs.Numbers.{labelled-take}
 use Rattle.graph.proofs.Labels.{labelled-events}
 use Rattle.graph.proofs.Round.{labelled-length, cycle-right}
 use Rattle.graph.proofs.Meaning.{edge-means}
-use Rattle.reasons.specs.Why.{makesIt, at, originOf, goalOf, earliestFirst, earliestSecond, reasonOf, causeOf, causeAt}
+use Rattle.reasons.specs.Why.{noEvent, makesIt, at, originOf, goalOf, earliestFirst, earliestSecond, reasonOf, causeOf, causeAt}
 use Rattle.reasons.specs.Meaning.{Makes, Explained}
 use Rattle.reasons.proofs.Pairs.{Pair, found, lowest-first, lowest-second}
 use Rattle.reasons.proofs.Reasons.{First, reason-first}
@@ -39,17 +38,20 @@ cycle-edge g t (a ∷ l) r p h = subst (λ z. T (hasEdge g (getD (a ∷ l) p 0) 
 
 -- ---- a record of the prefix is that record of the recording
 
+abbrev noRecord : Labelled
+noRecord = record { transaction = 0; event = noEvent }
+
 module _ (es : List Event) (n i : ℕ) (h : i < n) where
-  at-prefix : getD (labelled (take n es)) i (labelledAs 0 pastEnd) ≡ getD (labelled es) i (labelledAs 0 pastEnd)
-  at-prefix = ap (λ l. getD l i (labelledAs 0 pastEnd)) (labelled-take none-yet n es) ∙ getD-take n (labelled es) i (labelledAs 0 pastEnd) h
+  at-prefix : getD (labelled (take n es)) i noRecord ≡ getD (labelled es) i noRecord
+  at-prefix = ap (λ l. getD l i noRecord) (labelled-take none-yet n es) ∙ getD-take n (labelled es) i noRecord h
 
-  pub transaction-at : getD (labelled (take n es)) i (labelledAs 0 pastEnd) .transaction ≡ transactionAt es i
+  pub transaction-at : getD (labelled (take n es)) i noRecord .transaction ≡ transactionAt es i
   unfolding transactionAt
-  transaction-at = ap (λ x. x .transaction) at-prefix ∙ sym (List·getD-map (λ x. x .transaction) (labelled es) i (labelledAs 0 pastEnd))
+  transaction-at = ap (λ x. x .transaction) at-prefix ∙ sym (List·getD-map (λ x. x .transaction) (labelled es) i noRecord)
 
-  pub event-at : getD (labelled (take n es)) i (labelledAs 0 pastEnd) .event ≡ getD es i pastEnd
+  pub event-at : getD (labelled (take n es)) i noRecord .event ≡ getD es i noEvent
   event-at =
-      ap (λ x. x .event) at-prefix ∙ sym (List·getD-map (λ x. x .event) (labelled es) i (labelledAs 0 pastEnd)) ∙ ap (λ l. getD l i pastEnd) (labelled-events none-yet es)
+      ap (λ x. x .event) at-prefix ∙ sym (List·getD-map (λ x. x .event) (labelled es) i noRecord) ∙ ap (λ l. getD l i noEvent) (labelled-events none-yet es)
 
 -- ---- what makes an edge of the reported cycle
 
@@ -116,7 +118,7 @@ module _ (es : List Event) (k : ℕ) (some : shortest es ≡ suc k) (p : ℕ) (h
   unfolding makesIt edgesUpTo
   some-pair =
       let e = edge-means xs a b edge in
-      let o = before-at (labelledAs 0 pastEnd) (e .order) in (
+      let o = before-at noRecord (e .order) in (
         o .0,
         o .1,
         record {
@@ -139,9 +141,9 @@ module _ (es : List Event) (k : ℕ) (some : shortest es ≡ suc k) (p : ℕ) (h
       let m : Makes es k cycle p i j = pair-makes (found (makesIt xs a b) (length xs) q) in
       let lt : i < suc k = omega (arith, m .ordered, m .within) in
       let le : j < suc k = omega (arith, m .within) in
-      let is : causeAt es k p .reason ≡ reasonOf (getD es i pastEnd) (getD es j pastEnd) = ap₂ reasonOf (event-at es (suc k) i lt) (event-at es (suc k) j le) in
-      let r : First (getD es i pastEnd) (getD es j pastEnd) (causeAt es k p .reason) =
-      subst (First (getD es i pastEnd) (getD es j pastEnd)) (sym is) (reason-first (getD es i pastEnd) (getD es j pastEnd) (m .conflicting)) in
+      let is : causeAt es k p .reason ≡ reasonOf (getD es i noEvent) (getD es j noEvent) = ap₂ reasonOf (event-at es (suc k) i lt) (event-at es (suc k) j le) in
+      let r : First (getD es i noEvent) (getD es j noEvent) (causeAt es k p .reason) =
+      subst (First (getD es i noEvent) (getD es j noEvent)) (sym is) (reason-first (getD es i noEvent) (getD es j noEvent) (m .conflicting)) in
       record {
         edge = edge;
         makes = m;

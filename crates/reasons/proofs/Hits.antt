@@ -1,25 +1,23 @@
--- Laws of the search over the records that arrays hold: what has been passed, and what the first hit is.
-use Prim.Native.Nat.{ℕ, zero, suc, _+_, _-_, _*_, _<_, _≤_}
+-- Laws of the search over the records that arrays hold: what has been passed, and what the first hit is; and the edge at a place of a cycle.
+use Prim.Native.Nat.{ℕ, suc, _+_, _<_, _≤_}
 use native.Mathlib.Omega.{arith}
 use native.Mathlib.Numerals.{add-one}
-use mathlib.Core.Path.{_≡_, refl, sym, ap, ap₂, _∙_, subst}
+use mathlib.Core.Path.{_≡_, sym, ap, _∙_, subst}
 use mathlib.Core.Bool.{true, false, _&&_}
 use mathlib.Core.List.{List}
-use lib.ListN.{length, getD, drop}
-use lib.Seq.{getD-drop}
+use lib.ListN.{length, getD, List·getD-eq-default}
+use lib.Seq.{drop-cons}
 use lib.Dec.{eqb}
 use borrow.Author.Tests.{eq-eqb, ne-eqb}
 use Rattle.record.specs.declared.Event.{Event}
-use Rattle.record.specs.Record.{twoBytes}
 use Rattle.lists.proofs.Tests.{T-of}
 use Rattle.graph.specs.Conflict.{conflict}
 use Rattle.graph.specs.Transactions.{Labelled}
-use Rattle.graph.specs.Engine.{pastEnd, labelledAs, held}
+use Rattle.graph.specs.Held.{pastEnd, held}
 use Rattle.graph.proofs.Held.{length-held, held-at}
-use Rattle.checker.specs.Demand3.{numbersIn}
 use Rattle.reasons.specs.declared.Reason.{Reason}
 use Rattle.reasons.specs.declared.Cause.{Cause}
-use Rattle.reasons.specs.Why.{at, makesIt, earliestFirst, earliestSecond, reasonOf, causeOf, originOf, goalOf}
+use Rattle.reasons.specs.Why.{noEvent, at, makesIt, earliestFirst, earliestSecond, reasonOf, causeOf, goalOf}
 use Rattle.reasons.proofs.Pairs.{Pair, first-under, second-under, first-at, second-at, first-none, second-none}
 
 module _ (all : List Event) (labels : List ℕ) (n a b : ℕ) where
@@ -35,10 +33,10 @@ module _ (all : List Event) (labels : List ℕ) (n a b : ℕ) where
   NoneAt i j = (m : ℕ) → m < j → i < m → makesIt records a b i m ≡ false
 
   label-at : (i : ℕ) → i < n → at records i .transaction ≡ getD labels i 0
-  label-at i h = ap (λ x. x .transaction) (held-at i n all labels (labelledAs 0 pastEnd) h)
+  label-at i h = ap (λ x. x .transaction) (held-at i n all labels (record { transaction = 0; event = noEvent }) h)
 
   event-at : (i : ℕ) → i < n → at records i .event ≡ getD all i pastEnd
-  event-at i h = ap (λ x. x .event) (held-at i n all labels (labelledAs 0 pastEnd) h)
+  event-at i h = ap (λ x. x .event) (held-at i n all labels (record { transaction = 0; event = noEvent }) h)
 
   -- the test, of a record of transaction a and one after it
   pub hit-is : (i j : ℕ) → i < j → j < n → getD labels i 0 ≡ a → makesIt records a b i j ≡ (eqb (getD labels j 0) b && conflict (getD all i pastEnd) (getD all j pastEnd))
@@ -100,35 +98,12 @@ module _ (all : List Event) (labels : List ℕ) (n a b : ℕ) (some : 1 ≤ n) w
       let le : j < n = subst (λ k. k < n) s (second-small (earliestFirst xs a b)) in
       rw (p, ap (earliestSecond xs a b) (sym p) ∙ s, q, event-at all labels n a b i lt, event-at all labels n a b j le)
 
--- ---- the cycle that an output holds
+-- ---- the edge at a place of a cycle
 
-numbers-at : (n : ℕ) (bs : List ℕ) (p d : ℕ) → p < n → getD (numbersIn n bs) p d ≡ twoBytes bs (2 * p)
-unfolding numbersIn
-numbers-at zero bs p d h = absurd (omega arith)
-numbers-at (suc n) bs zero d h = refl
-numbers-at (suc n) bs (suc p) d h =
-    numbers-at n (drop 2 bs) p d (omega arith)
-    ∙ ap₂ (λ x y. x + 256 * y) (getD-drop 2 bs (2 * p) 0 ∙ ap (λ k. getD bs k 0) low) (getD-drop 2 bs (2 * p + 1) 0 ∙ ap (λ k. getD bs k 0) high)
-  where
-    low : 2 + 2 * p ≡ 2 * suc p
-    low = omega arith
+pub goal-next : (cycle : List ℕ) (p : ℕ) → p + 1 < length cycle → goalOf cycle p ≡ getD cycle (p + 1) 0
+goal-next cycle p h =
+    let within : suc p < length cycle = omega arith in
+    ap (λ l. getD l 0 0) (sym (drop-cons cycle (suc p) (getD cycle 0 0) within) ∙ drop-cons cycle (suc p) 0 within) ∙ ap (λ i. getD cycle i 0) (sym (add-one p))
 
-    high : 2 + (2 * p + 1) ≡ 2 * suc p + 1
-    high = omega arith
-
-numbers-past : (n : ℕ) (bs : List ℕ) (p d : ℕ) → n ≤ p → getD (numbersIn n bs) p d ≡ d
-unfolding numbersIn
-numbers-past zero bs p d h = refl
-numbers-past (suc n) bs zero d h = absurd (omega arith)
-numbers-past (suc n) bs (suc p) d h = numbers-past n (drop 2 bs) p d (omega arith)
-
--- the edge at a place, as it is read from the output's bytes
-module _ (n : ℕ) (bs : List ℕ) (p : ℕ) (h : p < n) where
-  pub origin-read : originOf (numbersIn n bs) p ≡ twoBytes bs (2 * p)
-  origin-read = numbers-at n bs p 0 h
-
-  pub goal-read : p + 1 < n → goalOf (numbersIn n bs) p ≡ twoBytes bs (2 * (p + 1))
-  goal-read k = numbers-at n bs (suc p) (getD (numbersIn n bs) 0 0) (omega arith) ∙ ap (λ m. twoBytes bs (2 * m)) (sym (add-one p))
-
-  pub goal-first : n ≤ p + 1 → goalOf (numbersIn n bs) p ≡ twoBytes bs (2 * 0)
-  goal-first k = numbers-past n bs (suc p) (getD (numbersIn n bs) 0 0) (omega arith) ∙ numbers-at n bs 0 0 (omega arith)
+pub goal-first : (cycle : List ℕ) (p : ℕ) → length cycle ≤ p + 1 → goalOf cycle p ≡ getD cycle 0 0
+goal-first cycle p h = List·getD-eq-default cycle (getD cycle 0 0) {n = suc p} (omega arith)

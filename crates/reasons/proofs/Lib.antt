@@ -1,8 +1,8 @@
-pub mod Examples
 pub mod Reasons
 pub mod Pairs
-pub mod Hits
 pub mod Causes
+pub mod Alike
+pub mod Hits
+pub mod Tellings
 pub mod Right
 pub mod Asking
-pub mod Tellings

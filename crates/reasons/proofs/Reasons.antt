@@ -19,7 +19,7 @@ use Rattle.reasons.specs.Meaning.{Holds}
 
 -- what is given for a thread t and two targets x and y, by what holds: the same thread, variable and lock, the first governing the second and the
 -- second the first, the same child
-unfoldable chosen : ℕ → ℕ → ℕ → Bool → Bool → Bool → Bool → Bool → Bool → Reason
+unfoldable pub chosen : ℕ → ℕ → ℕ → Bool → Bool → Bool → Bool → Bool → Bool → Reason
 chosen t x y thread variable lock first second child =
     firstOf (λ g. g .holds) (ground (ForkJoin x) false)
     (ground (Thread t) thread ∷ ground (Variable x) variable ∷ ground (Lock x) lock ∷ ground (ForkJoin x) first ∷ ground (ForkJoin y) second ∷ ground (ForkJoin x) child ∷ [])

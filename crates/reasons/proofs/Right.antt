@@ -1,7 +1,7 @@
 -- What is told of an edge is right, of every input, output and work area and every place.
 use Prim.Native.Nat.{ℕ, zero, suc, _<_, _≤_}
 use native.Mathlib.Omega.{arith}
-use mathlib.Core.Path.{_≡_, refl, sym, ap, ap₂, _∙_, subst}
+use mathlib.Core.Path.{_≡_, refl, sym, ap, _∙_, subst}
 use mathlib.Core.Logic.{_⊎_, inl, inr, ⊎-elim}
 use mathlib.Core.Bool.{true, false}
 use mathlib.Core.List.{List, [], _∷_}
@@ -9,11 +9,14 @@ use lib.ListN.{length, getD}
 use lib.Dec.{ltb}
 use borrow.Author.Tests.{ltb-true, ltb-false}
 use Rattle.record.specs.declared.Event.{Event}
+use Rattle.record.specs.declared.Refusal.{Refusal}
+use Rattle.record.specs.Answers as Answers
+use Rattle.record.specs.Answers.{refusedAs}
 use Rattle.graph.specs.Violation.{shortest, cycleOf}
 use Rattle.lists.proofs.Tests.{by}
+use Rattle.looking.specs.Refusals.{events}
 use Rattle.checker.specs.Verdict.{cooperable, violation}
-use Rattle.checker.specs.Verdict as Verdict
-use Rattle.checker.specs.Refusals.{refusal, events}
+use Rattle.checker.specs.Judged.{refusal}
 use Rattle.checker.proofs.Demand3.{is-cooperable, is-violation, numbers-are, refused-keeps}
 use Rattle.reasons.specs.declared.Reason.{Reason}
 use Rattle.reasons.specs.declared.Reason.the-variants.{Thread, Variable, Lock, ForkJoin}
@@ -26,10 +29,9 @@ use Rattle.reasons.proofs.Causes.{explained}
 
 -- ---- what is told, case by case
 
-told-refused : (input out work : List ℕ) (p n : ℕ) → refusal input out work .number ≡ suc n
-    → told input out work p ≡ Refused (record { number = suc n; «record» = refusal input out work .place })
+told-refused : (input out work : List ℕ) (p n : ℕ) → refusal input out work .number ≡ suc n → told input out work p ≡ Refused (refusal input out work)
 unfolding told
-told-refused input out work p n e = rw (e, told) (ap (λ m. Refused (record { number = m; «record» = refusal input out work .place })) e)
+told-refused input out work p n e = rw (e, told) (ap (λ m. Refused (record { number = m; place = refusal input out work .place })) e)
 
 pub told-fine : (input out work : List ℕ) (p : ℕ) → refusal input out work .number ≡ 0 → told input out work p ≡ toldOf (events input) p
 unfolding told
@@ -52,14 +54,15 @@ told-past es p k e l = rw (e, l, toldOf)
 abbrev kindOf : Told → ℕ
 kindOf t = numbers t .kind
 
-abbrev kindOfAnswer : Verdict.Numbers → ℕ
+abbrev kindOfAnswer : Answers.Numbers → ℕ
 kindOfAnswer a = a .kind
 
--- the same refusal, told and answered
-refusals-same : (n m j k : ℕ) → Refused (record { number = n; «record» = j }) ≡ Refused (record { number = m; «record» = k }) → (n ≡ m) × (j ≡ k)
-refusals-same n m j k q =
-    let l : _≡_ {A = List ℕ} (n ∷ j ∷ []) (m ∷ k ∷ []) = ap (λ t. numbers t .values) q in
-    (cc l, cc l)
+-- a refusal that is told, as it is answered; and one answered, as it is told
+abbrev answeredAs : Told → Answers.Numbers
+answeredAs t = record { kind = numbers t .kind; first = getD (numbers t .values) 0 0; second = getD (numbers t .values) 1 0 }
+
+abbrev toldAs : Answers.Numbers → Told
+toldAs a = Refused (record { number = a .first; place = a .second })
 
 module _ (input out work : List ℕ) (p : ℕ) where
   abbrev es : List Event
@@ -68,12 +71,10 @@ module _ (input out work : List ℕ) (p : ℕ) where
   when-refused : (n : ℕ) → refusal input out work .number ≡ suc n → Right input out work p
   when-refused n e =
       let t = told-refused input out work p n e in
-      let w = ap (λ j. j .answer) (refused-keeps input out work n e) in
+      let no : Refusal = refusal input out work in
+      let w : answer input out work p ≡ refusedAs no = ap (λ j. j .answer) (refused-keeps input out work n e) ∙ ap (λ m. refusedAs (record { number = m; place = no .place })) (sym e) in
       record {
-        refused = λ m k. (
-          (λ q. let s = refusals-same (suc n) m (refusal input out work .place) k (sym t ∙ q) in w ∙ ap₂ (λ x y. record { kind = 2; first = x; second = y }) (s .0) (s .1)),
-          (λ q. t ∙ ap₂ (λ x y. Refused (record { number = x; «record» = y })) (ap (λ a. a .first) (sym w ∙ q)) (ap (λ a. a .second) (sym w ∙ q))),
-        );
+        refused = λ r. ((λ q. w ∙ ap answeredAs (sym t ∙ q)), (λ q. t ∙ ap toldAs (sym w ∙ q)));
         no-such-edge = ((λ q. absurd (omega (arith, ap kindOf (sym t ∙ q)))), ⊎-elim (λ q. absurd (omega (arith, ap kindOfAnswer w, q))) (λ q. absurd (omega (arith, ap kindOfAnswer w, q .0))));
         because = λ q. absurd (omega (arith, ap kindOfAnswer w, q));
       }
@@ -85,7 +86,7 @@ module _ (input out work : List ℕ) (p : ℕ) where
         let t = told-fine input out work p fine ∙ told-cooperable es p e in
         let w = ap (λ j. j .answer .kind) (is-cooperable input out work fine e) in
         record {
-          refused = λ m k. ((λ q. absurd (omega (arith, ap kindOf (sym t ∙ q)))), (λ q. absurd (omega (arith, w, ap kindOfAnswer q))));
+          refused = λ r. ((λ q. absurd (omega (arith, ap kindOf (sym t ∙ q)))), (λ q. absurd (omega (arith, w, ap kindOfAnswer q))));
           no-such-edge = ((λ q. inl w), λ q. t);
           because = λ q. absurd (omega (arith, w, q));
         }
@@ -105,7 +106,7 @@ module _ (input out work : List ℕ) (p : ℕ) where
           let t = told-fine input out work p fine ∙ told-edge es p k e l in
           let below : p < length (cycleOf es (suc k)) = ltb-true p (length (cycleOf es (suc k))) l in
           record {
-            refused = λ m k. ((λ q. absurd (omega (arith, ap kindOf (sym t ∙ q)))), (λ q. absurd (omega (arith, ap kindOfAnswer answer-is, ap kindOfAnswer q))));
+            refused = λ r. ((λ q. absurd (omega (arith, ap kindOf (sym t ∙ q)))), (λ q. absurd (omega (arith, ap kindOfAnswer answer-is, ap kindOfAnswer q))));
             no-such-edge = (
               (λ q. absurd (omega (arith, ap kindOf (sym t ∙ q)))),
               ⊎-elim (λ q. absurd (omega (arith, ap kindOfAnswer answer-is, q))) (λ q. absurd (omega (arith, q .1, ap (λ a. a .second) answer-is))),
@@ -118,7 +119,7 @@ module _ (input out work : List ℕ) (p : ℕ) where
           let t = told-fine input out work p fine ∙ told-past es p k e l in
           let past : length (cycleOf es (suc k)) ≤ p = ltb-false p (length (cycleOf es (suc k))) l in
           record {
-            refused = λ m k. ((λ q. absurd (omega (arith, ap kindOf (sym t ∙ q)))), (λ q. absurd (omega (arith, ap kindOfAnswer answer-is, ap kindOfAnswer q))));
+            refused = λ r. ((λ q. absurd (omega (arith, ap kindOf (sym t ∙ q)))), (λ q. absurd (omega (arith, ap kindOfAnswer answer-is, ap kindOfAnswer q))));
             no-such-edge = ((λ q. inr (ap kindOfAnswer answer-is, omega (arith, ap (λ a. a .second) answer-is))), λ q. t);
             because = λ q r. absurd (omega (arith, r, ap (λ a. a .second) answer-is));
           }
@@ -146,7 +147,7 @@ reason-by (ForkJoin u) = refl
 abbrev toldBy : Numbers → Told
 toldBy n =
     let value : ℕ → ℕ = λ i. getD (n .values) i 0 in
-    getD (Because (record { first = value 0; second = value 1; reason = reasonBy (value 2) (value 3) }) ∷ NoSuchEdge ∷ Refused (record { number = value 0; «record» = value 1 }) ∷ [])
+    getD (Because (record { first = value 0; second = value 1; reason = reasonBy (value 2) (value 3) }) ∷ NoSuchEdge ∷ Refused (record { number = value 0; place = value 1 }) ∷ [])
     (n .kind) NoSuchEdge
 
 told-by : (t : Told) → toldBy (numbers t) ≡ t

@@ -1,4 +1,5 @@
 pub mod Why
-pub mod Meaning
 pub mod Lines
+pub mod Meaning
+pub mod Examples
 pub mod Telling

@@ -5,7 +5,8 @@ use lib.ListN.{length}
 use Rattle.record.specs.declared.Event.{Event}
 use Rattle.lists.specs.Lists.{each, over, below}
 use Rattle.graph.specs.Violation.{shortest, cycleOf}
-use Rattle.checker.specs.Refusals.{refusal, events}
+use Rattle.looking.specs.Refusals.{events}
+use Rattle.checker.specs.Judged.{refusal}
 use Rattle.reasons.specs.Why.{causeAt, valuesOf}
 
 -- a line: first record, second record, reason, its number

@@ -6,20 +6,21 @@ use mathlib.Core.List.{List}
 use lib.ListN.{getD}
 use lib.Dec.{T}
 use Rattle.record.specs.declared.Event.{Event}
+use Rattle.record.specs.declared.Refusal.{Refusal}
 use Rattle.record.specs.Record.{target}
+use Rattle.record.specs.Answers as Answers
+use Rattle.record.specs.Answers.{refusedAs}
 use Rattle.trace.specs.Paths.{hasEdge}
 use Rattle.graph.specs.Conflict.{sameVariable, sameLock, governs, sameChild, conflict}
 use Rattle.graph.specs.Violation.{edgesUpTo, transactionAt}
-use Rattle.graph.specs.Engine.{pastEnd}
-use Rattle.checker.specs.Verdict as Verdict
-use Rattle.checker.specs.Refusals.{events}
+use Rattle.looking.specs.Refusals.{events}
 use Rattle.checker.specs.Judged.{judged}
 use Rattle.checker.specs.Demand3.{numbersIn}
 use Rattle.reasons.specs.declared.Reason.{Reason}
 use Rattle.reasons.specs.declared.Reason.the-variants.{Thread, Variable, Lock, ForkJoin}
 use Rattle.reasons.specs.declared.Cause.{Cause}
 use Rattle.reasons.specs.declared.Told.the-variants.{Because, NoSuchEdge, Refused}
-use Rattle.reasons.specs.Why.{nameOf, numberOf, originOf, goalOf, told}
+use Rattle.reasons.specs.Why.{nameOf, numberOf, noEvent, originOf, goalOf, told}
 
 -- A reason holds of two operations, with its number
 abbrev pub Holds : Reason → Event → Event → Type 0
@@ -33,7 +34,7 @@ Holds (ForkJoin u) a b =
 -- The events of a recording, the record that ends the judged prefix, a cycle, and a place in it
 module _ (es : List Event) (k : ℕ) (cycle : List ℕ) (p : ℕ) where
   abbrev pub eventAt : ℕ → Event
-  eventAt i = getD es i pastEnd
+  eventAt i = getD es i noEvent
 
   -- records i and j of the judged prefix make the edge: i stands before j, their transactions are the edge's two, and they conflict
   pub record Makes (i j : ℕ) : Type 0 where
@@ -57,7 +58,7 @@ module _ (es : List Event) (k : ℕ) (cycle : List ℕ) (p : ℕ) where
 
 -- Of every input, output and work area, and every place: beside the checker's answer and the cycle that it writes
 module _ (input out work : List ℕ) (p : ℕ) where
-  abbrev pub answer : Verdict.Numbers
+  abbrev pub answer : Answers.Numbers
   answer = judged input out work .answer
 
   abbrev pub cycle : List ℕ
@@ -65,7 +66,7 @@ module _ (input out work : List ℕ) (p : ℕ) where
 
   pub record Right : Type 0 where
     -- refused, exactly if the checker refuses, with its number and record
-    pub refused : (n k : ℕ) → (told input out work p ≡ Refused (record { number = n; «record» = k })) ↔ (answer ≡ record { kind = 2; first = n; second = k })
+    pub refused : (r : Refusal) → (told input out work p ≡ Refused r) ↔ (answer ≡ refusedAs r)
     -- no such edge, exactly if there is no violation or the place isn't below the cycle's length
     pub no-such-edge : (told input out work p ≡ NoSuchEdge) ↔ ((answer .kind ≡ 0) ⊎ ((answer .kind ≡ 1) × (answer .second ≤ p)))
     -- else the pair of records that makes the edge, and the reason

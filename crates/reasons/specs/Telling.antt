@@ -1,4 +1,5 @@
--- What the private functions that tell of all edges at once promise one another. A reader of the public promise need not read this.
+-- What the private functions that tell of all edges at once promise one another.
+-- A reader of the public promises need not read this.
 use Prim.Native.Nat.{ℕ}
 use mathlib.Core.List.{List}
 use Rattle.graph.specs.Transactions.{Labelled}

@@ -5,14 +5,16 @@ use mathlib.Core.List.{List, [], _∷_}
 use lib.ListN.{getD, length, take}
 use lib.Dec.{ltb, eqb}
 use Rattle.record.specs.declared.Event.{Event}
+use Rattle.record.specs.declared.Op.the-variants.{Yield}
+use Rattle.record.specs.declared.Refusal.{Refusal}
 use Rattle.record.specs.Record.{target}
+use Rattle.record.specs.Answers.{refusedAs}
 use Rattle.lists.specs.Lists.{someOf, firstOf, from, below}
 use Rattle.graph.specs.Conflict.{sameThread, sameVariable, sameLock, governs, sameChild, conflict}
 use Rattle.graph.specs.Transactions.{Labelled, labelled}
 use Rattle.graph.specs.Violation.{shortest, cycleOf}
-use Rattle.graph.specs.Engine.{pastEnd, labelledAs}
-use Rattle.checker.specs.Refusals.{Fault, refusal, events}
-use Rattle.checker.specs.Judged.{judged}
+use Rattle.looking.specs.Refusals.{events}
+use Rattle.checker.specs.Judged.{refusal, judged}
 use Rattle.reasons.specs.declared.Reason.{Reason}
 use Rattle.reasons.specs.declared.Reason.the-variants.{Thread, Variable, Lock, ForkJoin}
 use Rattle.reasons.specs.declared.Cause.{Cause}
@@ -56,9 +58,13 @@ grounds a b =
 unfoldable pub reasonOf : Event → Event → Reason
 reasonOf a b = firstOf (λ g. g .holds) (ground (ForkJoin (target (a .op))) false) (grounds a b) .reason
 
+-- what stands past the end of the records, where nobody looks
+abbrev pub noEvent : Event
+noEvent = record { thread = 0; op = Yield }
+
 -- record i of the judged prefix, and the records after it
 abbrev pub at : List Labelled → ℕ → Labelled
-at xs i = getD xs i (labelledAs 0 pastEnd)
+at xs i = getD xs i (record { transaction = 0; event = noEvent })
 
 abbrev pub after : List Labelled → ℕ → List ℕ
 after xs i = from (suc i) (length xs - suc i)
@@ -106,15 +112,15 @@ toldOf es p =
 -- of any recording: a refusal, as the checker's, goes first
 unfoldable pub told : List ℕ → List ℕ → List ℕ → ℕ → Told
 told input out work p =
-    let no : Fault = refusal input out work in
-    elim (no .number) [ zero ↦ toldOf (events input) p | suc n ↦ Refused (record { number = no .number; «record» = no .place }) ]
+    let no : Refusal = refusal input out work in
+    elim (no .number) [ zero ↦ toldOf (events input) p | suc n ↦ Refused no ]
 
 -- A cause by numbers
 abbrev pub valuesOf : Cause → List ℕ
 valuesOf c = c .first ∷ c .second ∷ nameOf (c .reason) ∷ numberOf (c .reason) ∷ []
 
 -- Each case of what is told by numbers: its kind, and its values.
--- 0 because: first record, second record, reason, its number.  1 no such edge.  2 refused: number and record
+-- 0 because: first record, second record, reason, its number.  1 no such edge.  2 refused, as everywhere: number and record
 pub record Numbers : Type 0 where
   pub kind : ℕ
   pub values : List ℕ
@@ -122,7 +128,7 @@ pub record Numbers : Type 0 where
 abbrev pub numbers : Told → Numbers
 numbers (Because c) = record { kind = 0; values = valuesOf c }
 numbers NoSuchEdge = record { kind = 1; values = [] }
-numbers (Refused r) = record { kind = 2; values = r .number ∷ r .«record» ∷ [] }
+numbers (Refused r) = record { kind = refusedAs r .kind; values = refusedAs r .first ∷ refusedAs r .second ∷ [] }
 
 -- The answer, the output and the work area at the end: the last two as after a plain judgement
 pub record Asked : Type 0 where

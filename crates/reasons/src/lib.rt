@@ -4,10 +4,11 @@ mod searching;
 mod telling;
 
 use checker::Answer;
-use checker::Refusal;
+use record::Refusal;
 ghost use mathlib.Core.Path.{_≡_};
+ghost use Rattle.record.specs.Answers.{Ending};
 ghost use Rattle.checker.specs.Verdict as Verdict;
-ghost use Rattle.checker.specs.Judged.{Judged, judged};
+ghost use Rattle.checker.specs.Judged.{judged};
 ghost use Rattle.reasons.specs.Why.{nameOf, numberOf, numbers, Asked, asked};
 ghost use Rattle.reasons.specs.Lines.{explained};
 
@@ -62,42 +63,76 @@ pub fn why(input: &[u8], out: &mut [u8], work: &mut [u64], place: usize) -> Told
     ensures { λ r. ⌜ _≡_ {A = Asked} (record { answer = numbers r; out = now (out .exit); work = now (work .exit) })
         (asked (now (input .entry)) (now (out .entry)) (now (work .entry)) place) ⌝ }
 {
-    match fast::judge(input, out, work) {
+    let mut threads = [0u8; 1024];
+    let mut kinds = [0u8; 1024];
+    let mut targets = [0u8; 1024];
+    let mut labels = [0u16; 1024];
+    let mut order = [0u16; 512];
+    match checker::judge_into(
+        input,
+        out,
+        work,
+        &mut threads,
+        &mut kinds,
+        &mut targets,
+        &mut labels,
+        &mut order,
+    ) {
         Answer::Refused(refusal) => Told::Refused(refusal),
-        Answer::Cooperable {
-            records: _,
-            transactions: _,
-        } => Told::NoSuchEdge,
+        Answer::Cooperable { .. } => Told::NoSuchEdge,
         Answer::Violation { record, length } => {
             if length <= place {
                 return Told::NoSuchEdge;
             }
-            let mut labels = [0u16; 1024];
-            let examined = checker::examine(input, &mut labels);
-            let all = examined.all;
-            Told::Because(searching::cause_at(all, &labels, record + 1, &*out, length, place))
+            let cycle = &order[..length];
+            Told::Because(searching::cause_at(
+                &threads,
+                &kinds,
+                &targets,
+                &labels,
+                record + 1,
+                cycle,
+                place,
+            ))
         }
     }
 }
 
 // Judges a recording, and tells why each edge of the reported cycle is there: four numbers for each, in cycle order.
 pub fn explain(input: &[u8], out: &mut [u8], work: &mut [u64], lines: &mut [u16; 2048]) -> Answer
-    ensures { λ r. ⌜ (_≡_ {A = Judged} (record { answer = Verdict.numbers r; out = now (out .exit); work = now (work .exit) })
+    ensures { λ r. ⌜ (_≡_ {A = Ending} (record { answer = Verdict.numbers r; out = now (out .exit); work = now (work .exit) })
         (judged (now (input .entry)) (now (out .entry)) (now (work .entry))))
         × (now (lines .exit) ≡ explained (now (input .entry)) (now (out .entry)) (now (work .entry)) (now (lines .entry))) ⌝ }
 {
-    let answer = fast::judge(input, out, work);
+    let mut threads = [0u8; 1024];
+    let mut kinds = [0u8; 1024];
+    let mut targets = [0u8; 1024];
+    let mut labels = [0u16; 1024];
+    let mut order = [0u16; 512];
+    let answer = checker::judge_into(
+        input,
+        out,
+        work,
+        &mut threads,
+        &mut kinds,
+        &mut targets,
+        &mut labels,
+        &mut order,
+    );
     match answer {
         Answer::Violation { record, length } => {
-            let mut labels = [0u16; 1024];
-            let examined = checker::examine(input, &mut labels);
-            let all = examined.all;
-            telling::write_lines(all, &labels, record + 1, &*out, length, lines);
+            let cycle = &order[..length];
+            telling::write_lines(
+                &threads,
+                &kinds,
+                &targets,
+                &labels,
+                record + 1,
+                cycle,
+                lines,
+            );
         }
-        Answer::Cooperable {
-            records: _,
-            transactions: _,
-        } => {}
+        Answer::Cooperable { .. } => {}
         Answer::Refused(_) => {}
     }
     answer

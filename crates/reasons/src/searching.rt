@@ -1,16 +1,14 @@
-// The earliest two records that make an edge: the search ends at the first hit.
+// The earliest two records that make an edge: the search ends at the first hit. Of the arrays it goes by the labels first.
 use crate::Cause;
 use crate::reasoning;
 use record::Event;
 ghost use mathlib.Core.Path.{_≡_};
 ghost use mathlib.Core.Bool.{_&&_};
-ghost use Prim.Native.Nat.{_+_, _*_, _<_, _≤_};
+ghost use Prim.Native.Nat.{_<_, _≤_};
 ghost use lib.Dec.{eqb};
-ghost use lib.ListN.{length};
-ghost use Rattle.record.specs.Record.{twoBytes};
+ghost use lib.ListN.{length, getD};
 ghost use Rattle.graph.specs.Conflict.{conflict};
-ghost use Rattle.graph.specs.Engine.{held};
-ghost use Rattle.checker.specs.Demand3.{numbersIn};
+ghost use Rattle.graph.specs.Held.{pastEnd, eventsIn, held};
 ghost use Rattle.reasons.specs.Why.{earliestFirst, earliestSecond, causeOf, originOf, goalOf};
 
 // Two records, the first before the second.
@@ -19,20 +17,45 @@ pub struct Pair {
     pub second: usize,
 }
 
-// Whether event `f` of transaction `t` makes an edge to `b` with event `e`, which stands before it.
-fn makes(e: Event, f: Event, t: u16, b: u16) -> bool
-    ensures { λ r. ⌜ r ≡ (eqb t b && conflict e f) ⌝ }
+// Whether record j is of transaction b and conflicts with record i, which stands before it.
+fn makes(
+    threads: &[u8; 1024],
+    kinds: &[u8; 1024],
+    targets: &[u8; 1024],
+    labels: &[u16; 1024],
+    i: usize,
+    j: usize,
+    b: u16,
+) -> bool
+    requires { ⌜ (i < 1024) × (j < 1024) ⌝ }
+    ensures { λ r. ⌜ (let all = eventsIn (now (threads .entry)) (now (kinds .entry)) (now (targets .entry)) in
+        r ≡ (eqb (getD (now (labels .entry)) j 0) b && conflict (getD all i pastEnd) (getD all j pastEnd))) ⌝ }
 {
-    if t == b {
-        return graph::conflicts(e, f);
+    if labels[j] == b {
+        return graph::conflicts(
+            threads[i],
+            kinds[i],
+            targets[i],
+            threads[j],
+            kinds[j],
+            targets[j],
+        );
     }
     false
 }
 
 // The earliest first record, among the first `count`, that makes an edge from transaction `a` to `b` with a later one, and for it the earliest second.
-pub fn search(all: [Event; 1024], labels: &[u16; 1024], count: usize, a: u16, b: u16) -> Pair
+pub fn search(
+    threads: &[u8; 1024],
+    kinds: &[u8; 1024],
+    targets: &[u8; 1024],
+    labels: &[u16; 1024],
+    count: usize,
+    a: u16,
+    b: u16,
+) -> Pair
     requires { ⌜ count ≤ 1024 ⌝ }
-    ensures { λ r. ⌜ (let xs = held count all (now (labels .entry)) in
+    ensures { λ r. ⌜ (let xs = held count (eventsIn (now (threads .entry)) (now (kinds .entry)) (now (targets .entry))) (now (labels .entry)) in
         (r .first ≡ earliestFirst xs a b) × (r .second ≡ earliestSecond xs a b (earliestFirst xs a b))) ⌝ }
 {
     let mut found = Pair {
@@ -44,7 +67,7 @@ pub fn search(all: [Event; 1024], labels: &[u16; 1024], count: usize, a: u16, b:
         if labels[i] == a {
             let mut j = i + 1;
             while j < count {
-                if makes(all[i], all[j], labels[j], b) {
+                if makes(threads, kinds, targets, labels, i, j, b) {
                     found = Pair {
                         first: i,
                         second: j,
@@ -59,15 +82,37 @@ pub fn search(all: [Event; 1024], labels: &[u16; 1024], count: usize, a: u16, b:
     found
 }
 
-// What makes an edge from transaction `a` to `b`, among the first `count` records.
-fn cause(all: [Event; 1024], labels: &[u16; 1024], count: usize, a: u16, b: u16) -> Cause
-    requires { ⌜ (1 ≤ count) × (count ≤ 1024) ⌝ }
-    ensures { λ r. ⌜ r ≡ causeOf (held count all (now (labels .entry))) a b ⌝ }
+// The operation of record i, as the arrays show it: by its thread, kind and target, all that a reason looks at.
+fn operation_at(threads: &[u8; 1024], kinds: &[u8; 1024], targets: &[u8; 1024], i: usize) -> Event
+    requires { ⌜ i < 1024 ⌝ }
+    ensures { λ r. ⌜ r ≡ getD (eventsIn (now (threads .entry)) (now (kinds .entry)) (now (targets .entry))) i pastEnd ⌝ }
 {
-    let pair = search(all, labels, count, a, b);
+    let op = record::operation_of(kinds[i], targets[i], 0);
+    Event {
+        thread: threads[i],
+        op,
+    }
+}
+
+// What makes an edge from transaction `a` to `b`, among the first `count` records.
+fn cause(
+    threads: &[u8; 1024],
+    kinds: &[u8; 1024],
+    targets: &[u8; 1024],
+    labels: &[u16; 1024],
+    count: usize,
+    a: u16,
+    b: u16,
+) -> Cause
+    requires { ⌜ (1 ≤ count) × (count ≤ 1024) ⌝ }
+    ensures { λ r. ⌜ r ≡ causeOf (held count (eventsIn (now (threads .entry)) (now (kinds .entry)) (now (targets .entry))) (now (labels .entry))) a b ⌝ }
+{
+    let pair = search(threads, kinds, targets, labels, count, a, b);
     let first = pair.first;
     let second = pair.second;
-    let reason = reasoning::reason_of(all[first], all[second]);
+    let p = operation_at(threads, kinds, targets, first);
+    let q = operation_at(threads, kinds, targets, second);
+    let reason = reasoning::reason_of(p, q);
     Cause {
         first,
         second,
@@ -75,37 +120,24 @@ fn cause(all: [Event; 1024], labels: &[u16; 1024], count: usize, a: u16, b: u16)
     }
 }
 
-// A number in two bytes, low byte first.
-fn word(low: u8, high: u8) -> u16
-    ensures { λ r. ⌜ r ≡ low + 256 * high ⌝ }
-{
-    low as u16 + 256 * (high as u16)
-}
-
-// The transaction at a place of the cycle that an output holds.
-fn transaction_at(out: &[u8], place: usize) -> u16
-    requires { ⌜ 2 * place + 2 ≤ length (now out) ⌝ }
-    ensures { λ r. ⌜ r ≡ twoBytes (now (out .entry)) (2 * place) ⌝ }
-{
-    word(out[2 * place], out[2 * place + 1])
-}
-
-// What makes the edge at a place of the cycle of `size` transactions that an output holds: from that transaction to the next, from the last to the first.
+// What makes the edge at a place of a cycle: from that transaction to the next, from the last to the first.
 pub fn cause_at(
-    all: [Event; 1024],
+    threads: &[u8; 1024],
+    kinds: &[u8; 1024],
+    targets: &[u8; 1024],
     labels: &[u16; 1024],
     count: usize,
-    out: &[u8],
-    size: usize,
+    cycle: &[u16],
     place: usize,
 ) -> Cause
-    requires { ⌜ (1 ≤ count) × (count ≤ 1024) × (place < size) × (2 * size ≤ length (now out)) ⌝ }
-    ensures { λ r. ⌜ (let cycle = numbersIn size (now (out .entry)) in
-        r ≡ causeOf (held count all (now (labels .entry))) (originOf cycle place) (goalOf cycle place)) ⌝ }
+    requires { ⌜ (1 ≤ count) × (count ≤ 1024) × (place < length (now cycle)) ⌝ }
+    ensures { λ r. ⌜ r ≡ causeOf (held count (eventsIn (now (threads .entry)) (now (kinds .entry)) (now (targets .entry))) (now (labels .entry)))
+        (originOf (now (cycle .entry)) place) (goalOf (now (cycle .entry)) place) ⌝ }
 {
-    let a = transaction_at(out, place);
-    if place + 1 < size {
-        return cause(all, labels, count, a, transaction_at(out, place + 1));
+    let a = cycle[place];
+    let next = place + 1;
+    if next < cycle.len() {
+        return cause(threads, kinds, targets, labels, count, a, cycle[next]);
     }
-    cause(all, labels, count, a, transaction_at(out, 0))
+    cause(threads, kinds, targets, labels, count, a, cycle[0])
 }

@@ -1,21 +1,23 @@
--- `reasons::why` meets its contract: the checker's answer, then the records examined again and searched.
+-- `reasons::why` meets its contract: the checker's answer, then a search through the arrays that the judgement left.
 use native.Mathlib.Omega.{arith}
 use borrow.Author.Needs.{needs}
-use Rattle.reasons.proofs.Asking.{Violates, held-again, says-refused, says-cooperable, says-past, violated, cause-is, says-because}
+use Rattle.looking.specs.Looked.{arraysOf}
+use Rattle.reasons.proofs.Asking.{Violates, says-refused, says-cooperable, says-past, violated, says-because}
 use Rattle.reasons.proofs.why.Statement.{statement}
 use Rattle.reasons.proofs.why.Tie as tie
 
 -- what the violation says, where its numbers are known
 found : (c : tie.After-record) →
-    let a = c .before .before .before .before .before .before .before .before .before .before .before .before .args in
-    Violates (a .input .now) (a .out .now) (a .work .now) (c .before .before .before .before .before .before .judge .last .1 .0) (c .«record» .given .0 .0) (c .«record» .given .0 .1 .0)
+    let a = c .before .before .before .before .before .before .before .before .before .before .before .before .before .before .before .before .before .args in
+    let j = c .before .before .before .before .before .before .judge-into in
+    Violates (a .input .now) (a .out .now) (a .work .now) (arraysOf (j .last .1 .1 .1 .0) (j .last .1 .1 .1 .1 .0) (j .last .1 .1 .1 .1 .1 .0) (j .last .1 .1 .1 .1 .1 .1 .0)) (j .last .1 .1 .1 .1 .1 .1 .1 .0) (c .«record» .given .0 .0) (c .«record» .given .0 .1 .0)
 found c =
-    let a = c .before .before .before .before .before .before .before .before .before .before .before .before .args in
-    let j = c .before .before .before .before .before .before .judge in
-    violated (a .input .now) (a .out .now) (a .work .now) (j .result) (j .last .1 .0) (j .last .1 .1 .0) (j .ensures) _ _ (c .«record» .given .1)
+    let a = c .before .before .before .before .before .before .before .before .before .before .before .before .before .before .before .before .before .args in
+    let j = c .before .before .before .before .before .before .judge-into in
+    violated (a .input .now) (a .out .now) (a .work .now) (j .result) _ _ (j .ensures .0) _ _ (c .«record» .given .1) _ _ _ _ (j .ensures .1) (j .ensures .2)
 
-judge-requires : tie.Need-judge-requires
-judge-requires c κs = search needs
+judge-into-requires : tie.Need-judge-into-requires
+judge-into-requires c κs = search needs
 
 enum-known-refusal : tie.Need-enum-known-refusal
 enum-known-refusal c = search needs
@@ -34,20 +36,23 @@ same-length-2 c = search needs
 
 returns : tie.Need-returns
 returns c =
-    let a = c .before .before .before .before .before .before .before .before .before .before .before .before .before .before .args in
-    let j = c .before .before .before .before .before .before .before .before .judge in
-    says-past (a .input .now) (a .out .now) (a .work .now) (j .result) (j .last .1 .0) (j .last .1 .1 .0) (j .ensures) _ _ (c .before .before .«record» .given .1) (a .place) (c .if1 .taken)
+    let a = c .before .before .before .before .before .before .before .before .before .before .before .before .before .before .before .before .before .before .before .args in
+    let j = c .before .before .before .before .before .before .before .before .judge-into in
+    says-past (a .input .now) (a .out .now) (a .work .now) (j .result) _ _ (j .ensures .0) _ _ (c .before .before .«record» .given .1) (a .place) (c .if1 .taken)
 
-examine-requires : tie.Need-examine-requires
-examine-requires c κs = search needs
+array-share-prefix-order : tie.Need-array-share-prefix-order
+array-share-prefix-order c = found (c .before .before) .room
+
+slice-aggregate-cycle : tie.Need-slice-aggregate-cycle
+slice-aggregate-cycle c = found (c .before .before .before) .front
 
 add-cause-at : tie.Need-add-cause-at
-add-cause-at c = omega (arith, found (c .before .before .before .before .before .before) .most)
+add-cause-at c = omega (arith, found (c .before .before .before .before .before .before .before) .most)
 
 cause-at-requires : tie.Need-cause-at-requires
 cause-at-requires c κs =
     let v = found (c .before .before .before .before .before .before .before) in
-    (omega arith, omega (arith, v .most), c .before .before .before .before .before .if1 .left, v .room)
+    (omega arith, omega (arith, v .most), omega (arith, v .front, c .before .before .before .before .before .if1 .left))
 
 same-length-3 : tie.Need-same-length-3
 same-length-3 c = search needs
@@ -57,9 +62,9 @@ same-length-4 c = search needs
 
 returns-2 : tie.Need-returns-2
 returns-2 c =
-    let a = c .before .before .before .before .before .before .before .before .before .before .before .before .before .args in
-    let j = c .before .before .before .before .before .before .before .judge in
-    says-refused (a .input .now) (a .out .now) (a .work .now) (j .result) (j .last .1 .0) (j .last .1 .1 .0) (j .ensures) (a .place) (c .before .refusal .given .0 .0) (c .before .refusal .given .1)
+    let a = c .before .before .before .before .before .before .before .before .before .before .before .before .before .before .before .before .before .before .args in
+    let j = c .before .before .before .before .before .before .before .judge-into in
+    says-refused (a .input .now) (a .out .now) (a .work .now) (j .result) _ _ (j .ensures .0) (a .place) (c .before .refusal .given .0 .0) (c .before .refusal .given .1)
 
 same-length-5 : tie.Need-same-length-5
 same-length-5 c = search needs
@@ -69,9 +74,9 @@ same-length-6 c = search needs
 
 returns-3 : tie.Need-returns-3
 returns-3 c =
-    let a = c .before .before .before .before .before .before .before .before .before .before .before .before .args in
-    let j = c .before .before .before .before .before .before .judge in
-    says-cooperable (a .input .now) (a .out .now) (a .work .now) (j .result) (j .last .1 .0) (j .last .1 .1 .0) (j .ensures) (a .place) _ _ (c .enum-told .given .1)
+    let a = c .before .before .before .before .before .before .before .before .before .before .before .before .before .before .before .before .before .args in
+    let j = c .before .before .before .before .before .before .judge-into in
+    says-cooperable (a .input .now) (a .out .now) (a .work .now) (j .result) _ _ (j .ensures .0) (a .place) _ _ (c .enum-told .given .1)
 
 same-length-7 : tie.Need-same-length-7
 same-length-7 c = search needs
@@ -81,24 +86,23 @@ same-length-8 c = search needs
 
 returns-4 : tie.Need-returns-4
 returns-4 c =
-    let a = c .before .before .before .before .before .before .before .before .before .before .before .before .before .before .before .before .before .before .before .before .args in
-    let j = c .before .before .before .before .before .before .before .before .before .before .before .before .before .before .judge in
-    let r = c .before .before .before .before .before .before .before .before .«record» .given .1 in
-    says-because (a .input .now) (a .out .now) (a .work .now) (j .result) (j .last .1 .0) (j .last .1 .1 .0) (j .ensures) _ _ r (a .place) (c .before .before .before .before .before .before .if1 .left) (c .cause-at .result)
-    (cause-is (a .input .now) (a .out .now) (a .work .now) (j .result) (j .last .1 .0) (j .last .1 .1 .0) (j .ensures) _ _ r (a .place) _ (c .cause-at .result) (held-again (a .input .now) (a .out .now) (a .work .now) (j .result) (j .last .1 .0) (j .last .1 .1 .0) (j .ensures) _ _ r _ _ _ _ (c .before .before .before .before .examine .ensures)) (c .cause-at .ensures))
+    let a = c .before .before .before .before .before .before .before .before .before .before .before .before .before .before .before .before .before .before .before .before .before .before .before .before .before .args in
+    let j = c .before .before .before .before .before .before .before .before .before .before .before .before .before .before .judge-into in
+    says-because (a .input .now) (a .out .now) (a .work .now) (j .result) _ _ (j .ensures .0) _ _ (c .before .before .before .before .before .before .before .before .«record» .given .1) _ _ _ _ (j .ensures .1) (j .ensures .2) (a .place) (c .before .before .before .before .before .before .if1 .left) (c .cause-at .result) (c .cause-at .ensures)
 
 pub why-spec : {M : Type 1} → statement M
 why-spec =
     tie.close
     (tie.spec
-    judge-requires
+    judge-into-requires
     enum-known-refusal
     enum-told
     enum-known-record
     same-length
     same-length-2
     returns
-    examine-requires
+    array-share-prefix-order
+    slice-aggregate-cycle
     add-cause-at
     cause-at-requires
     same-length-3

@@ -1,24 +1,28 @@
--- `reasons::searching::cause_at` meets its contract: the edge's two transactions are read from the output.
+-- `reasons::searching::cause_at` meets its contract: the edge's two transactions are read from the cycle.
 use native.Mathlib.Omega.{arith}
-use mathlib.Core.Path.{sym, ap₂, _∙_}
+use mathlib.Core.Path.{sym, ap, _∙_}
 use borrow.Author.Needs.{needs}
-use Rattle.graph.specs.Engine.{held}
+use lib.ListN.{getD}
+use Rattle.graph.specs.Held.{eventsIn, held}
 use Rattle.reasons.specs.Why.{causeOf}
-use Rattle.reasons.proofs.Hits.{origin-read, goal-read, goal-first}
+use Rattle.reasons.proofs.Hits.{goal-next, goal-first}
 use Rattle.reasons.proofs.searching.cause_at.Statement.{statement}
 use Rattle.reasons.proofs.searching.cause_at.Tie as tie
 
-transaction-at-requires : tie.Need-transaction-at-requires
-transaction-at-requires c κs = search needs
+mul-a : tie.Need-mul-a
+mul-a c = search needs
 
-add-if1 : tie.Need-add-if1
-add-if1 c = search needs
+shared-slice-read-a : tie.Need-shared-slice-read-a
+shared-slice-read-a c = search needs
 
-add-transaction-at : tie.Need-add-transaction-at
-add-transaction-at c = search needs
+add-next : tie.Need-add-next
+add-next c = search needs
 
-transaction-at-requires-2 : tie.Need-transaction-at-requires-2
-transaction-at-requires-2 c κs = search needs
+mul-cause : tie.Need-mul-cause
+mul-cause c = search needs
+
+shared-slice-read-cause : tie.Need-shared-slice-read-cause
+shared-slice-read-cause c = search needs
 
 cause-requires : tie.Need-cause-requires
 cause-requires c κs = search needs
@@ -27,12 +31,11 @@ returns : tie.Need-returns
 returns c =
     let a = c .before .before .before .before .before .args in
     c .cause .ensures
-    ∙ ap₂ (causeOf (held (a .count) (a .all) (a .labels .now)))
-    (c .before .before .before .transaction-at .ensures ∙ sym (origin-read (a .size) (a .out .now) (a .place) (omega arith)))
-    (c .before .transaction-at2 .ensures ∙ sym (goal-read (a .size) (a .out .now) (a .place) (omega arith) (omega arith)))
+    ∙ ap (causeOf (held (a .count) (eventsIn (a .threads .now) (a .kinds .now) (a .targets .now)) (a .labels .now)) (getD (a .cycle .now) (a .place) 0))
+    (sym (goal-next (a .cycle .now) (a .place) (omega arith)))
 
-transaction-at-requires-3 : tie.Need-transaction-at-requires-3
-transaction-at-requires-3 c κs = search needs
+shared-slice-read-cause-2 : tie.Need-shared-slice-read-cause-2
+shared-slice-read-cause-2 c = search needs
 
 cause-requires-2 : tie.Need-cause-requires-2
 cause-requires-2 c κs = search needs
@@ -41,20 +44,20 @@ returns-2 : tie.Need-returns-2
 returns-2 c =
     let a = c .before .before .before .before .before .args in
     c .cause2 .ensures
-    ∙ ap₂ (causeOf (held (a .count) (a .all) (a .labels .now)))
-    (c .before .before .before .transaction-at .ensures ∙ sym (origin-read (a .size) (a .out .now) (a .place) (omega arith)))
-    (c .before .transaction-at3 .ensures ∙ sym (goal-first (a .size) (a .out .now) (a .place) (omega arith) (omega arith)))
+    ∙ ap (causeOf (held (a .count) (eventsIn (a .threads .now) (a .kinds .now) (a .targets .now)) (a .labels .now)) (getD (a .cycle .now) (a .place) 0))
+    (sym (goal-first (a .cycle .now) (a .place) (omega arith)))
 
 pub cause-at-spec : {M : Type 1} → statement M
 cause-at-spec =
     tie.close
     (tie.spec
-    transaction-at-requires
-    add-if1
-    add-transaction-at
-    transaction-at-requires-2
+    mul-a
+    shared-slice-read-a
+    add-next
+    mul-cause
+    shared-slice-read-cause
     cause-requires
     returns
-    transaction-at-requires-3
+    shared-slice-read-cause-2
     cause-requires-2
     returns-2)

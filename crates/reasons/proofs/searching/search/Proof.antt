@@ -4,22 +4,22 @@ use native.Mathlib.Omega.{arith}
 use mathlib.Core.Path.{_≡_, refl, sym, _∙_}
 use mathlib.Core.Logic.{⊎-elim}
 use borrow.Author.Count.{below-more}
-use borrow.Author.Needs.{needs}
+use Rattle.graph.specs.Held.{eventsIn}
 use Rattle.reasons.proofs.Hits.{NoneBelow, NoneAt, hit-is, passed-over, hit-first, hit-none}
 use Rattle.reasons.proofs.searching.search.Statement.{statement}
 use Rattle.reasons.proofs.searching.search.Tie as tie
 
 abbrev Inv-loop : tie.InvT-loop
-Inv-loop labels count a b all found₀ i j₀ found j = (found ≡ record { first = 0; second = 0 }) × (i < j) × (j ≤ count) × NoneAt all labels count a b i j
+Inv-loop threads kinds targets labels count a b found₀ i j₀ found j = (found ≡ record { first = 0; second = 0 }) × (i < j) × (j ≤ count) × NoneAt (eventsIn threads kinds targets) labels count a b i j
 
 abbrev μ-loop : tie.MeasureT-loop
-μ-loop labels count a b all found₀ i j₀ found j = count - j
+μ-loop threads kinds targets labels count a b found₀ i j₀ found j = count - j
 
 abbrev Inv-search : tie.InvT-search
-Inv-search labels count a b all found₀ i₀ found i = (found ≡ record { first = 0; second = 0 }) × (i ≤ count) × NoneBelow all labels count a b i
+Inv-search threads kinds targets labels count a b found₀ i₀ found i = (found ≡ record { first = 0; second = 0 }) × (i ≤ count) × NoneBelow (eventsIn threads kinds targets) labels count a b i
 
 abbrev μ-search : tie.MeasureT-search
-μ-search labels count a b all found₀ i₀ found i = count - i
+μ-search threads kinds targets labels count a b found₀ i₀ found i = count - i
 
 search-holds : tie.Need-search-holds Inv-loop μ-loop Inv-search μ-search
 search-holds c = (refl, omega arith, λ k p m q r. absurd (omega arith))
@@ -36,26 +36,8 @@ add-j c = omega arith
 loop-holds : tie.Need-loop-holds Inv-loop μ-loop Inv-search μ-search
 loop-holds c = (c .before .before .before .search .inv .0, omega arith, omega arith, λ m p q. absurd (omega arith))
 
-mul-makes : tie.Need-mul-makes Inv-loop μ-loop Inv-search μ-search
-mul-makes c = omega arith
-
-array-copy-out-makes : tie.Need-array-copy-out-makes Inv-loop μ-loop Inv-search μ-search
-array-copy-out-makes c = omega arith
-
-mul-makes-2 : tie.Need-mul-makes-2 Inv-loop μ-loop Inv-search μ-search
-mul-makes-2 c = omega arith
-
-array-copy-out-makes-2 : tie.Need-array-copy-out-makes-2 Inv-loop μ-loop Inv-search μ-search
-array-copy-out-makes-2 c = omega arith
-
-mul-makes-3 : tie.Need-mul-makes-3 Inv-loop μ-loop Inv-search μ-search
-mul-makes-3 c = omega arith
-
-element-copy-out-makes : tie.Need-element-copy-out-makes Inv-loop μ-loop Inv-search μ-search
-element-copy-out-makes c = omega arith
-
 makes-requires : tie.Need-makes-requires Inv-loop μ-loop Inv-search μ-search
-makes-requires c κs = search needs
+makes-requires c κs = (omega arith, omega arith)
 
 add-j-2 : tie.Need-add-j-2 Inv-loop μ-loop Inv-search μ-search
 add-j-2 c = omega arith
@@ -65,15 +47,15 @@ loop-less c = omega arith
 
 loop-again : tie.Need-loop-again Inv-loop μ-loop Inv-search μ-search
 loop-again c =
-    let at = c .before .before .before .before .before .before .loop in
-    let out = c .before .before .before .before .before .before .before in
+    let at = c .before .before .before .loop in
+    let out = c .before .before .before .before in
     let a = out .before .before .before .before .args in
     let i = out .before .before .before .search .i in (
       at .inv .0,
       omega arith,
       omega arith,
       below-more _ _ (at .inv .3)
-          (λ p. hit-is (a .t1) (a .labels .now) (a .count) (a .a) (a .b) i (at .j) p (omega arith) (out .if1 .taken) ∙ sym (c .before .makes .ensures) ∙ c .if2 .left),
+          (λ p. hit-is (eventsIn (a .threads .now) (a .kinds .now) (a .targets .now)) (a .labels .now) (a .count) (a .a) (a .b) i (at .j) p (omega arith) (out .if1 .taken) ∙ sym (c .before .makes .ensures) ∙ c .if2 .left),
     )
 
 add-i : tie.Need-add-i Inv-loop μ-loop Inv-search μ-search
@@ -95,7 +77,7 @@ search-again c =
     (λ q. (
       q .1 ∙ at .inv .0,
       omega arith,
-      below-more _ _ (at .inv .2) (λ m p r. passed-over (a .t1) (a .labels .now) (a .count) (a .a) (a .b) (at .i) (omega arith) (q .0 .left) m),
+      below-more _ _ (at .inv .2) (λ m p r. passed-over (eventsIn (a .threads .now) (a .kinds .now) (a .targets .now)) (a .labels .now) (a .count) (a .a) (a .b) (at .i) (omega arith) (q .0 .left) m),
     ))
     (c .if1 .came)
 
@@ -103,16 +85,16 @@ returns : tie.Need-returns Inv-loop μ-loop Inv-search μ-search
 returns c =
     let at = c .before .search in
     let a = c .before .before .args in
-    rw (at .inv .0) (hit-none (a .t1) (a .labels .now) (a .count) (a .a) (a .b) (λ k p m q r. at .inv .2 k (omega arith) m q r))
+    rw (at .inv .0) (hit-none (eventsIn (a .threads .now) (a .kinds .now) (a .targets .now)) (a .labels .now) (a .count) (a .a) (a .b) (λ k p m q r. at .inv .2 k (omega arith) m q r))
 
 returns-2 : tie.Need-returns-2 Inv-loop μ-loop Inv-search μ-search
 returns-2 c =
-    let at = c .before .before .before .before .before .before .loop in
-    let out = c .before .before .before .before .before .before .before in
+    let at = c .before .before .before .loop in
+    let out = c .before .before .before .before in
     let a = out .before .before .before .before .args in
     let i = out .before .before .before .search .i in
-    let hit = hit-is (a .t1) (a .labels .now) (a .count) (a .a) (a .b) i (at .j) (omega arith) (omega arith) (out .if1 .taken) ∙ sym (c .before .makes .ensures) ∙ c .if2 .taken in
-    hit-first (a .t1) (a .labels .now) (a .count) (a .a) (a .b) i (at .j) (omega arith) (omega arith) hit (out .before .before .before .search .inv .2) (at .inv .3)
+    let hit = hit-is (eventsIn (a .threads .now) (a .kinds .now) (a .targets .now)) (a .labels .now) (a .count) (a .a) (a .b) i (at .j) (omega arith) (omega arith) (out .if1 .taken) ∙ sym (c .before .makes .ensures) ∙ c .if2 .taken in
+    hit-first (eventsIn (a .threads .now) (a .kinds .now) (a .targets .now)) (a .labels .now) (a .count) (a .a) (a .b) i (at .j) (omega arith) (omega arith) hit (out .before .before .before .search .inv .2) (at .inv .3)
 
 pub search-spec : {M : Type 1} → statement M
 search-spec =
@@ -127,12 +109,6 @@ search-spec =
     element-copy-out-if1
     add-j
     loop-holds
-    mul-makes
-    array-copy-out-makes
-    mul-makes-2
-    array-copy-out-makes-2
-    mul-makes-3
-    element-copy-out-makes
     makes-requires
     add-j-2
     loop-less

@@ -1,27 +1,25 @@
 -- `reasons::telling::write_lines` meets its contract: four stores for each edge.
 use Prim.Native.Nat.{_+_, _*_, _-_, _<_, _≤_}
 use native.Mathlib.Omega.{arith}
+use mathlib.Core.Path.{_≡_, ap, _∙_}
 use lib.ListN.{length, length-set}
 use borrow.Author.Needs.{needs}
-use Rattle.graph.specs.Engine.{held}
-use Rattle.checker.specs.Demand3.{numbersIn}
-use Rattle.reasons.proofs.Tellings.{cause-small, Told, told-start, line-room, told-more, told-end}
+use Rattle.lists.specs.Lists.{over}
+use Rattle.graph.specs.Held.{eventsIn, held}
+use Rattle.reasons.proofs.Tellings.{cause-small, linesTo, Told, told-start, told-more}
 use Rattle.reasons.proofs.telling.write_lines.Statement.{statement}
 use Rattle.reasons.proofs.telling.write_lines.Tie as tie
 
 abbrev Inv-loop : tie.InvT-loop
-Inv-loop all labels count out size lines₀ place₀ lines place =
-    (place ≤ size) × Told (held count all labels) (numbersIn size out) size lines₀ lines place
+Inv-loop threads kinds targets labels count cycle lines₀ place₀ lines place =
+    (place ≤ length cycle) × Told (held count (eventsIn threads kinds targets) labels) cycle lines₀ lines place
 
 abbrev μ-loop : tie.MeasureT-loop
-μ-loop all labels count out size lines₀ place₀ lines place = size - place
+μ-loop threads kinds targets labels count cycle lines₀ place₀ lines place = length cycle - place
 
 -- there is room for a line more
 room : (c : tie.In-loop Inv-loop μ-loop) → 4 * c .before .loop .place + 4 ≤ length (c .before .loop .lines)
-room c =
-    let a = c .before .before .before .before .args in
-    let at = c .before .loop in
-    line-room (held (a .count) (a .all) (a .labels .now)) (numbersIn (a .size) (a .out .now)) (a .size) (a .lines .now) (omega arith) (at .lines) (at .place) (omega arith) (at .inv .1)
+room c = omega (arith, c .before .loop .inv .1 .same)
 
 -- and its records are below 1,024
 small : (c : tie.After-cause-at Inv-loop μ-loop) →
@@ -29,15 +27,15 @@ small : (c : tie.After-cause-at Inv-loop μ-loop) →
     (c .cause-at .result .first < a .count) × (c .cause-at .result .second < a .count)
 small c =
     let a = c .before .before .before .before .before .args in
-    cause-small (a .all) (a .labels .now) (a .count) _ _ (omega arith) (c .cause-at .result) (c .cause-at .ensures)
+    cause-small (eventsIn (a .threads .now) (a .kinds .now) (a .targets .now)) (a .labels .now) (a .count) _ _ (omega arith) (c .cause-at .result) (c .cause-at .ensures)
 
 loop-holds : tie.Need-loop-holds Inv-loop μ-loop
 loop-holds c =
     let a = c .before .before .args in
-    (omega arith, told-start (held (a .count) (a .all) (a .labels .now)) (numbersIn (a .size) (a .out .now)) (a .size) (a .lines .now))
+    (omega arith, told-start (held (a .count) (eventsIn (a .threads .now) (a .kinds .now) (a .targets .now)) (a .labels .now)) (a .cycle .now) (a .lines .now))
 
 cause-at-requires : tie.Need-cause-at-requires Inv-loop μ-loop
-cause-at-requires c κs = (omega arith, omega arith, omega arith, omega arith)
+cause-at-requires c κs = (omega arith, omega arith, omega arith)
 
 cast-lines : tie.Need-cast-lines Inv-loop μ-loop
 cast-lines c = omega (arith, small (c .before) .0)
@@ -108,7 +106,7 @@ loop-again c =
     let at = c .before .before .before .before .before .before .loop in
     let r = c .before .before .before .before .cause-at in (
       omega arith,
-      told-more (held (a .count) (a .all) (a .labels .now)) (numbersIn (a .size) (a .out .now)) (a .size) (a .lines .now) (omega arith) (at .lines) (at .place) (omega arith) (at .inv .1)
+      told-more (held (a .count) (eventsIn (a .threads .now) (a .kinds .now) (a .targets .now)) (a .labels .now)) (a .cycle .now) (a .lines .now) (at .lines) (at .place) (omega arith) (at .inv .1)
           (r .result) (c .before .name-of .result) (c .number-of .result) (r .ensures) (c .before .name-of .ensures) (c .number-of .ensures),
     )
 
@@ -119,7 +117,8 @@ returns : tie.Need-returns Inv-loop μ-loop
 returns c =
     let a = c .before .before .before .before .args in
     let at = c .before .loop in
-    told-end (held (a .count) (a .all) (a .labels .now)) (numbersIn (a .size) (a .out .now)) (a .size) (a .lines .now) (at .lines) (at .place) (omega arith) (at .inv .1)
+    let all : at .place ≡ length (a .cycle .now) = omega arith in
+    at .inv .1 .written ∙ ap (λ p. over (linesTo (held (a .count) (eventsIn (a .threads .now) (a .kinds .now) (a .targets .now)) (a .labels .now)) (a .cycle .now) (a .lines .now) p) (a .lines .now)) all
 
 pub write-lines-spec : {M : Type 1} → statement M
 write-lines-spec =

@@ -16,7 +16,7 @@ use Rattle.graph.specs.Conflict as Conflict
 use Rattle.graph.specs.Transactions as Transactions
 use Rattle.graph.specs.Edges as Edges
 use Rattle.graph.specs.Violation as Violation
-use Rattle.checker.specs.Refusals as Refusals
+use Rattle.looking.specs.Refusals as Refusals
 use Rattle.checker.specs.Judged as Whole
 use Rattle.reasons.specs.Why as Why
 use Rattle.reasons.specs.Why.{Numbers, numbers, toldOf, asked}
