@@ -9,7 +9,7 @@ use lib.Dec.{T, ltb}
 use lib.ListN.{length}
 use lib.Seq.{append-snoc}
 use Rattle.lists.specs.Lists.{someOf}
-use Rattle.trace.specs.Paths.{Edge, Path, reaches, cyclic}
+use Rattle.trace.specs.Paths.{Edge, PathAlong, reaches, cyclic}
 use Rattle.lists.proofs.Tests.{by, by-same, T-of, or-cases, or-left, or-right, and-left, and-right, same-test, or-false-both, not-false, or-and-self}
 use Rattle.lists.proofs.Lists.{Among, some-cons, some-snoc, some-same, some-has, some-at, Holds}
 use Rattle.trace.proofs.Reach.{sound, complete, path-joined, edge-back}
@@ -38,9 +38,9 @@ absorbed false false false h = refl
 pub both-ways : (g : List Edge) → cyclic g ≡ false → (a b : ℕ) → T (reaches g a b) → T (reaches g b a) → a ≡ b
 both-ways g acyclic a b u v = go (sound g a b u) v
   where
-    go : {c d : ℕ} → Path g c d → T (reaches g d c) → c ≡ d
-    go Path.here v = refl
-    go {c} {d} (Path.there {b = e} f p) v = absurd (subst T acyclic (edge-back g c e f (complete g (path-joined p (sound g d c v)))))
+    go : {c d : ℕ} → PathAlong g c d → T (reaches g d c) → c ≡ d
+    go PathAlong.here v = refl
+    go {c} {d} (PathAlong.there {b = e} f p) v = absurd (subst T acyclic (edge-back g c e f (complete g (path-joined p (sound g d c v)))))
 
 module _ (m : ℕ) (most : m ≤ 512) (w₀ : List ℕ) (g : List Edge) (stands : Stands m w₀ g) (t : ℕ) (in-t : t < m) where
   -- who reaches one that reaches another reaches that

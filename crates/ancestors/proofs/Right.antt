@@ -12,7 +12,7 @@ use lib.ListN.{length}
 use Rattle.lists.specs.Lists.{someOf}
 use Rattle.lists.proofs.Tests.{by-same, or-cases, or-left, or-right, and-left, and-right, same-test}
 use Rattle.lists.proofs.Lists.{Among, first-of, Holds, some-at, some-has, some-same}
-use Rattle.trace.specs.Paths.{Edge, hasEdge, Path, reaches, cyclic}
+use Rattle.trace.specs.Paths.{Edge, hasEdge, PathAlong, reaches, cyclic}
 use Rattle.trace.proofs.Reach.{Last, last-edge, sound, complete, path-joined, edge-back, edge-below}
 use Rattle.trace.proofs.Closing.{reaches-goal, reaches-beyond, cyclic-goal}
 use Rattle.rows.specs.Bits.{has, begun}
@@ -105,7 +105,7 @@ module _ (xs : List Labelled) (x : Labelled) (bs : List ℕ) (right : RightSourc
       back u = or-cases (reaches g a t) (someOf (λ b. reaches g a b) bs) u
           (λ v. old a t v)
           (λ v. let f : Holds (λ b. reaches g a b) bs = some-at (λ b. reaches g a b) bs v in
-          complete h (path-joined (sound h a (f .x) (old a (f .x) (f .holds))) (Path.there (right .edge (f .x) (f .in-l)) Path.here)))
+          complete h (path-joined (sound h a (f .x) (old a (f .x) (f .holds))) (PathAlong.there (right .edge (f .x) (f .in-l)) PathAlong.here)))
 
   -- where there was no cycle there is one now exactly if t reached a source
   cycle : cyclic g ≡ false → cyclic h ≡ someOf (λ b. reaches g t b) bs
@@ -156,9 +156,9 @@ module _ (xs : List Labelled) (x : Labelled) (bs : List ℕ) (right : RightSourc
     pub looks-all : (k : ℕ) → n ≤ k → Looks k
     looks-all k le d hd lo u = go (sound g t d u) lo
       where
-        go : {a b : ℕ} → Path g a b → k ≤ b → b ≡ a
-        go Path.here l = refl
-        go {a} {b} (Path.there {b = c} e p) l =
+        go : {a b : ℕ} → PathAlong g a b → k ≤ b → b ≡ a
+        go PathAlong.here l = refl
+        go {a} {b} (PathAlong.there {b = c} e p) l =
             let f : Last g a b = last-edge (record { mid = c; edge = e; path = p }) in
             absurd (omega (arith, edge-below n g (bounded-edges n xs (holds .few)) (f .mid) b (f .edge) .1))
 
@@ -166,9 +166,9 @@ module _ (xs : List Labelled) (x : Labelled) (bs : List ℕ) (right : RightSourc
     looks-first : (k : ℕ) → t ≡ n → Looks k
     looks-first k new d hd lo u = go (sound g t d u) refl
       where
-        go : {a b : ℕ} → Path g a b → a ≡ t → b ≡ t
-        go Path.here q = q
-        go {a} (Path.there {b = c} e p) q = let f = has-pair xs a c e in absurd (omega (arith, holds .few (f .x) (first-of (f .order)), f .x-of, q))
+        go : {a b : ℕ} → PathAlong g a b → a ≡ t → b ≡ t
+        go PathAlong.here q = q
+        go {a} (PathAlong.there {b = c} e p) q = let f = has-pair xs a c e in absurd (omega (arith, holds .few (f .x) (first-of (f .order)), f .x-of, q))
 
     pub looks-enough : Looks (looked (x .transaction) n)
     unfolding looked

@@ -12,7 +12,7 @@ use lib.Seq.{take-length}
 use lib.Dec.{T}
 use Rattle.record.specs.declared.Event.{Event}
 use Rattle.lists.specs.Lists.{someOf, from}
-use Rattle.trace.specs.Paths.{Path, Cycle, cyclic}
+use Rattle.trace.specs.Paths.{PathAlong, Cycle, cyclic}
 use Rattle.graph.specs.Conflict.{conflict}
 use Rattle.graph.specs.Transactions.{none-yet, Labelled, labelledFrom, labelled, transactions}
 use Rattle.graph.specs.Swaps.{Swaps, Serial}
@@ -37,9 +37,9 @@ use Rattle.graph.proofs.Serializable.{trace-is, order-is, owned-is, ser
 pub edge-take : (k : ℕ) (l : List Labelled) {a b : ℕ} → Edge clash owner (take k l) a b → Edge clash owner l a b
 edge-take k l e = record { x = e .x; y = e .y; x-of = e .x-of; y-of = e .y-of; order = before-take k (e .x) (e .y) l (e .order); clash = e .clash; different = e .different }
 
-way-take : (k : ℕ) (l : List Labelled) {a b : ℕ} → Path (edges (take k l)) a b → Way clash owner l a b
-way-take k l Path.here = Way.here
-way-take k l (Path.there {a} {b} h p) = Way.there (edge-take k l (has-pair (take k l) a b h)) (way-take k l p)
+way-take : (k : ℕ) (l : List Labelled) {a b : ℕ} → PathAlong (edges (take k l)) a b → Way clash owner l a b
+way-take k l PathAlong.here = Way.here
+way-take k l (PathAlong.there {a} {b} h p) = Way.there (edge-take k l (has-pair (take k l) a b h)) (way-take k l p)
 
 -- where no prefix has a cycle, the whole has none
 pub whole : (es : List Event) → shortest es ≡ 0 → cyclic (edges (labelled es)) ≡ false

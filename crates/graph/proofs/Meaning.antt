@@ -9,7 +9,7 @@ use lib.ListN.{length, take}
 use lib.Dec.{T}
 use Rattle.record.specs.declared.Event.{Event}
 use Rattle.lists.specs.Lists.{someOf, from}
-use Rattle.trace.specs.Paths.{hasEdge, Path, Cycle, cyclic}
+use Rattle.trace.specs.Paths.{hasEdge, PathAlong, Cycle, cyclic}
 use Rattle.trace.proofs.Together.{Edge}
 use Rattle.trace.proofs.Reach.{cycle-means, cycle-made}
 use Rattle.graph.specs.Transactions.{Labelled, none-yet, labelledFrom, labelled}
@@ -28,9 +28,9 @@ pub edge-made : (xs : List Labelled) (a b : ℕ) → Edge clash owner xs a b →
 edge-made = edge-has
 
 -- A cycle of a prefix stays a cycle of every longer one
-path-stays : (j : ℕ) (xs : List Labelled) {a b : ℕ} → Path (edges (take j xs)) a b → Path (edges xs) a b
-path-stays j xs Path.here = Path.here
-path-stays j xs (Path.there {a} {b} h p) = Path.there (edge-made xs a b (edge-take j xs (edge-means (take j xs) a b h))) (path-stays j xs p)
+path-stays : (j : ℕ) (xs : List Labelled) {a b : ℕ} → PathAlong (edges (take j xs)) a b → PathAlong (edges xs) a b
+path-stays j xs PathAlong.here = PathAlong.here
+path-stays j xs (PathAlong.there {a} {b} h p) = PathAlong.there (edge-made xs a b (edge-take j xs (edge-means (take j xs) a b h))) (path-stays j xs p)
 
 take-take : {A : Type 0} (j k : ℕ) (l : List A) → j ≤ k → take j (take k l) ≡ take j l
 take-take zero k l h = refl

@@ -12,7 +12,7 @@ use lib.Dec.{T, T-not, not-T, eqb, eqb→eq, eqb-refl}
 use Rattle.record.specs.declared.Event.{Event}
 use Rattle.record.specs.declared.Op.the-variants.{Yield}
 use Rattle.lists.specs.Lists.{someOf, keep, firstOf, from, below}
-use Rattle.trace.specs.Paths.{Edge, hasEdge, Path, reaches, cyclic}
+use Rattle.trace.specs.Paths.{Edge, hasEdge, PathAlong, reaches, cyclic}
 use Rattle.graph.specs.Transactions.{Tally, none-yet, tallied, Labelled, labelledFrom, labelled, transactions}
 use Rattle.graph.specs.Edges.{makes, edges}
 use Rattle.graph.specs.Rule.{Closes, Leads, Follows, Reported}
@@ -25,16 +25,16 @@ use Rattle.graph.proofs.Ends.{has-pair}
 use Rattle.graph.proofs.Numbers.{sane-none, labels-lt, bounded-edges, labelled-take}
 use Rattle.graph.proofs.Steps.{among-first, among-end, edges-snoc}
 
-over-snoc : {g : List Edge} {a b c : ℕ} → Path g a b → T (hasEdge g b c) → Over g a c
-over-snoc {c} Path.here e = record { mid = c; edge = e; path = Path.here }
-over-snoc (Path.there {b} h p) e = record { mid = b; edge = h; path = path-joined p (Path.there e Path.here) }
+over-snoc : {g : List Edge} {a b c : ℕ} → PathAlong g a b → T (hasEdge g b c) → Over g a c
+over-snoc {c} PathAlong.here e = record { mid = c; edge = e; path = PathAlong.here }
+over-snoc (PathAlong.there {b} h p) e = record { mid = b; edge = h; path = path-joined p (PathAlong.there e PathAlong.here) }
 
-over-path : {g : List Edge} {a b c : ℕ} → Over g a b → Path g b c → Over g a c
+over-path : {g : List Edge} {a b c : ℕ} → Over g a b → PathAlong g b c → Over g a c
 over-path o p = record { mid = o .mid; edge = o .edge; path = path-joined (o .path) p }
 
-over-strict : {g : List Edge} {a b : ℕ} → a ≢ b → Path g a b → Over g a b
-over-strict d Path.here = absurd (d refl)
-over-strict d (Path.there {b} e p) = record { mid = b; edge = e; path = p }
+over-strict : {g : List Edge} {a b : ℕ} → a ≢ b → PathAlong g a b → Over g a b
+over-strict d PathAlong.here = absurd (d refl)
+over-strict d (PathAlong.there {b} e p) = record { mid = b; edge = e; path = p }
 
 module _ (n : ℕ) (xs : List Labelled) (x : Labelled) (small : (y : Labelled) → Among y (xs ++ (x ∷ [])) → y .transaction < n) (acyclic : cyclic (edges xs) ≡ false) where
   abbrev t : ℕ
@@ -56,11 +56,11 @@ module _ (n : ℕ) (xs : List Labelled) (x : Labelled) (small : (y : Labelled) �
       (λ u. u)
       (λ u. absurd (d (sym (eqb→eq t b (and-left (eqb t b) (someOf (λ y. eqb (y .transaction) a && makes y x) xs) u)))))
 
-  through : {C : Type 0} {a b : ℕ} → Path h a b → (Path (edges xs) a b → C) → (Path h a t → Path h t b → C) → C
-  through Path.here f g = f Path.here
-  through (Path.there {a} {b} {c} e p) f g = by (eqb b t)
-      (λ q. let bt : b ≡ t = eqb→eq b t (T-of q) in g (Path.there e (subst (λ z. Path h b z) bt Path.here)) (subst (λ z. Path h z c) bt p))
-      (λ q. through p (λ r. f (Path.there (old-edge a b e (λ bt. subst T q (subst (λ z. T (eqb b z)) bt (eqb-refl b)))) r)) (λ r s. g (Path.there e r) s))
+  through : {C : Type 0} {a b : ℕ} → PathAlong h a b → (PathAlong (edges xs) a b → C) → (PathAlong h a t → PathAlong h t b → C) → C
+  through PathAlong.here f g = f PathAlong.here
+  through (PathAlong.there {a} {b} {c} e p) f g = by (eqb b t)
+      (λ q. let bt : b ≡ t = eqb→eq b t (T-of q) in g (PathAlong.there e (subst (λ z. PathAlong h b z) bt PathAlong.here)) (subst (λ z. PathAlong h z c) bt p))
+      (λ q. through p (λ r. f (PathAlong.there (old-edge a b e (λ bt. subst T q (subst (λ z. T (eqb b z)) bt (eqb-refl b)))) r)) (λ r s. g (PathAlong.there e r) s))
 
   -- a cycle of the longer prefix goes through t
   loop-at : T (cyclic h) → Over h t t
@@ -70,9 +70,9 @@ module _ (n : ℕ) (xs : List Labelled) (x : Labelled) (small : (y : Labelled) �
       let a : ℕ = f .x .origin in
       let b : ℕ = f .x .goal in
       let e : T (hasEdge h a b) = some-has (λ c. eqb (c .origin) a && eqb (c .goal) b) (f .x) h (f .in-l) (and-both (eqb a a) (eqb b b) (eqb-refl a) (eqb-refl b)) in
-      let p : Path h b a = sound h b a (f .holds) in
+      let p : PathAlong h b a = sound h b a (f .holds) in
       by (eqb b t)
-      (λ q. let bt : b ≡ t = eqb→eq b t (T-of q) in over-snoc (subst (λ z. Path h z a) bt p) (subst (λ z. T (hasEdge h a z)) bt e))
+      (λ q. let bt : b ≡ t = eqb→eq b t (T-of q) in over-snoc (subst (λ z. PathAlong h z a) bt p) (subst (λ z. T (hasEdge h a z)) bt e))
       (λ q. through p
       (λ r. absurd (subst T acyclic (edge-back (edges xs) a b (old-edge a b e (λ bt. subst T q (subst (λ z. T (eqb b z)) bt (eqb-refl b)))) (complete (edges xs) r))))
       (λ r s. over-path (over-snoc s e) r))
@@ -152,7 +152,7 @@ module _ (n : ℕ) (xs : List Labelled) (x : Labelled) (small : (y : Labelled) �
       let r = round n t (loop-at u) (omega (
         arith,
         among-length (keep (λ c. reaches (edges xs) c t) (below n))
-            (keep-has (λ c. reaches (edges xs) c t) t (below n) (below-has n t (small x (among-end xs x))) (complete (edges xs) Path.here)),
+            (keep-has (λ c. reaches (edges xs) c t) t (below n) (below-has n t (small x (among-end xs x))) (complete (edges xs) PathAlong.here)),
       )) in
       subst (Reported h t) (sym (r .1)) (refl, r .2)
 

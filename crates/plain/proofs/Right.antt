@@ -9,7 +9,7 @@ use Rattle.record.specs.declared.Event.{Event}
 use Rattle.lists.specs.Lists.{someOf, keep}
 use Rattle.lists.proofs.Tests.{or-cases, or-left, or-right, and-left, and-right}
 use Rattle.lists.proofs.Lists.{Among, keep-among, keep-has, among-map, among-unmap, Holds, some-at, some-has}
-use Rattle.trace.specs.Paths.{Edge, hasEdge, Path, reaches}
+use Rattle.trace.specs.Paths.{Edge, hasEdge, PathAlong, reaches}
 use Rattle.trace.proofs.Reach.{complete}
 use Rattle.graph.specs.Transactions.{Labelled, labelled, transactions, transactionLimit}
 use Rattle.graph.specs.Edges.{makes, edges}
@@ -45,14 +45,14 @@ sources-right xs x = record { edge = edge; path = path }
     path b e =
         let p : Labelled → Bool = λ y. eqb (y .transaction) b && makes y x in
         or-cases (hasEdge g b t) (eqb t t && someOf p xs) (subst T (edges-snoc xs x b t) e)
-        (λ u. or-left (reaches g b t) (someOf (λ c. reaches g b c) (sources xs x)) (complete g (Path.there u Path.here)))
+        (λ u. or-left (reaches g b t) (someOf (λ c. reaches g b c) (sources xs x)) (complete g (PathAlong.there u PathAlong.here)))
         (λ u. let f : Holds p xs = some-at p xs (and-right (eqb t t) (someOf p xs) u) in
         let y : Labelled = f .x in
         let is-b : y .transaction ≡ b = eqb→eq (y .transaction) b (and-left (eqb (y .transaction) b) (makes y x) (f .holds)) in
         let m : Among (y .transaction) (sources xs x) =
         among-map (λ z. z .transaction) (keep-has (λ z. makes z x) y xs (f .in-l) (and-right (eqb (y .transaction) b) (makes y x) (f .holds))) in
         or-right (reaches g b t) (someOf (λ c. reaches g b c) (sources xs x))
-        (some-has (λ c. reaches g b c) (y .transaction) (sources xs x) m (subst (λ c. T (reaches g c (y .transaction))) is-b (complete g Path.here))))
+        (some-has (λ c. reaches g b c) (y .transaction) (sources xs x) m (subst (λ c. T (reaches g c (y .transaction))) is-b (complete g PathAlong.here))))
 
 -- it keeps all records
 kept-all : (ys xs : List Labelled) → keptFrom next ys xs ≡ ys ++ xs

@@ -11,7 +11,7 @@ use Rattle.record.specs.declared.Event.{Event}
 use Rattle.record.specs.declared.Op.the-variants.{Yield}
 use Rattle.record.specs.Record.{target}
 use Rattle.lists.specs.Lists.{someOf}
-use Rattle.trace.specs.Paths.{Edge, hasEdge, Path, reaches, cyclic}
+use Rattle.trace.specs.Paths.{Edge, hasEdge, PathAlong, reaches, cyclic}
 use Rattle.lists.proofs.Tests.{by, by-same, T-of, T-is, or-cases, or-left, or-right, and-left, and-right, and-both}
 use Rattle.lists.proofs.Lists.{Among, Before, among-cons, some-none, among-map, before-map, before-mid, mid-before, among-parts}
 use Rattle.trace.proofs.Reach.{Bounded, edge-below, sound, edge-back}
@@ -52,9 +52,9 @@ closes-none xs x none apart =
 -- ---- a record that begins a transaction
 
 -- no path leaves a transaction that has no edges
-no-way-out : (n : ℕ) (g : List Edge) → Bounded n g → {a b : ℕ} → n ≤ a → Path g a b → a ≡ b
-no-way-out n g bounded h Path.here = refl
-no-way-out n g bounded h (Path.there {a} {b} t p) = absurd (omega (arith, edge-below n g bounded a b t .0))
+no-way-out : (n : ℕ) (g : List Edge) → Bounded n g → {a b : ℕ} → n ≤ a → PathAlong g a b → a ≡ b
+no-way-out n g bounded h PathAlong.here = refl
+no-way-out n g bounded h (PathAlong.there {a} {b} t p) = absurd (omega (arith, edge-below n g bounded a b t .0))
 
 module _ (built : List Event) where
   abbrev pub tally : Tally

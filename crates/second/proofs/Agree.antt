@@ -7,7 +7,7 @@ use mathlib.Core.List.{List, [], _∷_, _++_, map}
 use lib.Dec.{T, eqb, eqb→eq, eqb-refl}
 use Rattle.record.specs.declared.Event.{Event}
 use Rattle.lists.specs.Lists.{someOf}
-use Rattle.trace.specs.Paths.{Edge, hasEdge, Path, Cycle, reaches, cyclic}
+use Rattle.trace.specs.Paths.{Edge, hasEdge, PathAlong, Cycle, reaches, cyclic}
 use Rattle.lists.proofs.Tests.{and-left, and-right, and-both, same-test}
 use Rattle.lists.proofs.Lists.{some-has, some-at, Holds, among-map, before-map}
 use Rattle.trace.proofs.Reach.{Over, sound, complete, path-joined, cycle-means, cycle-made}
@@ -23,22 +23,22 @@ use Rattle.second.proofs.Cover.{into-has, has-into, has-append, second-
 
 -- ---- a graph h, and one g with fewer edges and the same paths
 
-module _ (g h : List Edge) (fewer : (a b : ℕ) → T (hasEdge g a b) → T (hasEdge h a b)) (ways : (a b : ℕ) → T (hasEdge h a b) → Path g a b)
+module _ (g h : List Edge) (fewer : (a b : ℕ) → T (hasEdge g a b) → T (hasEdge h a b)) (ways : (a b : ℕ) → T (hasEdge h a b) → PathAlong g a b)
     (apart : (a b : ℕ) → T (hasEdge h a b) → a ≢ b) where
-  more-path : {a b : ℕ} → Path g a b → Path h a b
-  more-path Path.here = Path.here
-  more-path (Path.there {a} {b} e p) = Path.there (fewer a b e) (more-path p)
+  more-path : {a b : ℕ} → PathAlong g a b → PathAlong h a b
+  more-path PathAlong.here = PathAlong.here
+  more-path (PathAlong.there {a} {b} e p) = PathAlong.there (fewer a b e) (more-path p)
 
-  fewer-path : {a b : ℕ} → Path h a b → Path g a b
-  fewer-path Path.here = Path.here
-  fewer-path (Path.there {a} {b} e p) = path-joined (ways a b e) (fewer-path p)
+  fewer-path : {a b : ℕ} → PathAlong h a b → PathAlong g a b
+  fewer-path PathAlong.here = PathAlong.here
+  fewer-path (PathAlong.there {a} {b} e p) = path-joined (ways a b e) (fewer-path p)
 
   pub same-reaches : (a b : ℕ) → reaches g a b ≡ reaches h a b
   same-reaches a b = same-test (reaches g a b) (reaches h a b) (λ t. complete h (more-path (sound g a b t))) (λ t. complete g (fewer-path (sound h a b t)))
 
-  first-edge : {a b : ℕ} → a ≢ b → Path g a b → Over g a b
-  first-edge d Path.here = absurd (d refl)
-  first-edge d (Path.there {b} e p) = record { mid = b; edge = e; path = p }
+  first-edge : {a b : ℕ} → a ≢ b → PathAlong g a b → Over g a b
+  first-edge d PathAlong.here = absurd (d refl)
+  first-edge d (PathAlong.there {b} e p) = record { mid = b; edge = e; path = p }
 
   pub same-cyclic : cyclic g ≡ cyclic h
   same-cyclic = same-test (cyclic g) (cyclic h)
@@ -57,7 +57,7 @@ module _ (xs : List Labelled) (ok : Orderly (eventsOf xs)) where
   fewer : (a b : ℕ) → T (hasEdge (secondEdges xs) a b) → T (hasEdge (edges xs) a b)
   fewer = second-edge xs (λ x m. ok .ranges (x .event) (among-map (λ y. y .event) m))
 
-  ways : (a b : ℕ) → T (hasEdge (edges xs) a b) → Path (secondEdges xs) a b
+  ways : (a b : ℕ) → T (hasEdge (edges xs) a b) → PathAlong (secondEdges xs) a b
   ways = edge-second xs (λ x m. ok .ranges (x .event) (among-map (λ y. y .event) m)) (λ x y o. ok .pairs (x .event) (y .event) (before-map (λ y. y .event) o))
 
   apart : (a b : ℕ) → T (hasEdge (edges xs) a b) → a ≢ b

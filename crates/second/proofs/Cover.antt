@@ -9,7 +9,7 @@ use lib.Dec.{T, T-not, not-T, eqb, leb, eqb→eq, eqb-refl, eqb·suc-zero}
 use Rattle.record.specs.declared.Event.{Event}
 use Rattle.record.specs.Record.{target}
 use Rattle.lists.specs.Lists.{someOf, keep}
-use Rattle.trace.specs.Paths.{Edge, hasEdge, Path}
+use Rattle.trace.specs.Paths.{Edge, hasEdge, PathAlong}
 use Rattle.lists.proofs.Tests.{by, by-same, T-of, or-cases, or-left, or-right, and-left, and-right, and-both}
 use Rattle.lists.proofs.Lists.{Among, Before, among-cons, keep-among, keep-has, some-has, some-at, Holds, among-map, among-unmap, some-append}
 use Rattle.trace.proofs.Reach.{path-joined}
@@ -218,7 +218,7 @@ second-edge xs r = second-edge-from xs idle [] xs sized-idle kept-idle r (λ x y
 record Reached (h : List Edge) (s : Cells) (k : Key) (a : ℕ) : Type 0 where
   now : ℕ
   is : cell s k ≡ suc now
-  path : Path h a now
+  path : PathAlong h a now
 
 abbrev Covered : List Edge → Cells → List Labelled → Type 0
 Covered h s past = (x : Labelled) (k : Key) → Among x past → T (inside k) → T (leavesAt (x .event) k) → Reached h s k (x .transaction)
@@ -229,12 +229,12 @@ module _ (h : List Edge) where
   Makes s y = (b : ℕ) → Among b (sourcesOf s y) → T (hasEdge h b (y .transaction))
 
   -- from a record to a later one that asks where it left its transaction
-  arrives : (s : Cells) (past : List Labelled) (x y : Labelled) → Covered h s past → Makes s y → Among x past → Meeting (x .event) (y .event) → Path h (x .transaction) (y .transaction)
+  arrives : (s : Cells) (past : List Labelled) (x y : Labelled) → Covered h s past → Makes s y → Among x past → Meeting (x .event) (y .event) → PathAlong h (x .transaction) (y .transaction)
   arrives s past x y cov makes m meet =
       let r : Reached h s (meet .key) (x .transaction) = cov x (meet .key) m (meet .there) (meet .left) in
       by-same (r .now) (y .transaction)
-      (λ e. subst (λ c. Path h (x .transaction) c) e (r .path))
-      (λ ne. path-joined (r .path) (Path.there (makes (r .now) (source-has s (y .transaction) (y .event) (meet .key) (r .now) (meet .asked) (r .is) ne)) Path.here))
+      (λ e. subst (λ c. PathAlong h (x .transaction) c) e (r .path))
+      (λ ne. path-joined (r .path) (PathAlong.there (makes (r .now) (source-has s (y .transaction) (y .event) (meet .key) (r .now) (meet .asked) (r .is) ne)) PathAlong.here))
 
   covered-stored : (s : Cells) (past : List Labelled) (y : Labelled) → Sized s → T (ranged (y .event)) → AllRanged past
       → ((x : Labelled) → Among x past → Fits (x .event) (y .event)) → Makes s y → Covered h s past → Covered h (storedOf s y) (y ∷ past)
@@ -245,7 +245,7 @@ module _ (h : List Edge) where
         now = y .transaction;
         is = q ∙ ap (λ c. cond c (suc (y .transaction)) (cell s k)) e;
         path = among-cons m
-            (λ p. subst (λ c. Path h c (y .transaction)) (ap (λ w. w .transaction) (sym p)) Path.here)
+            (λ p. subst (λ c. PathAlong h c (y .transaction)) (ap (λ w. w .transaction) (sym p)) PathAlong.here)
             (λ n. arrives s past x y cov makes n (both-leave (x .event) (y .event) (fits x n) (rs x n) k i l (T-of e)));
       })
       (λ e. let f : Reached h s k (x .transaction) = among-cons m
@@ -254,7 +254,7 @@ module _ (h : List Edge) where
       record { now = f .now; is = q ∙ ap (λ c. cond c (suc (y .transaction)) (cell s k)) e ∙ f .is; path = f .path })
 
   abbrev Way : Labelled → Labelled → Type 0
-  Way x y = Path h (x .transaction) (y .transaction)
+  Way x y = PathAlong h (x .transaction) (y .transaction)
 
   cover-from : (s : Cells) (past xs : List Labelled) → Sized s → Covered h s past → AllRanged past → AllRanged xs
       → ((x y : Labelled) → Among x past → Among y xs → Fits (x .event) (y .event)) → ((x y : Labelled) → Before x y xs → Fits (x .event) (y .event))
@@ -288,9 +288,9 @@ module _ (h : List Edge) where
 
 -- Every edge of 01 is a path of the engine's edges
 pub edge-second : (xs : List Labelled) → AllRanged xs → ((x y : Labelled) → Before x y xs → Fits (x .event) (y .event))
-    → (a b : ℕ) → T (hasEdge (edges xs) a b) → Path (secondEdges xs) a b
+    → (a b : ℕ) → T (hasEdge (edges xs) a b) → PathAlong (secondEdges xs) a b
 edge-second xs r fits a b t =
     let e = has-pair xs a b t in
-    subst (λ c. Path (secondEdges xs) c b) (e .x-of) (subst (λ c. Path (secondEdges xs) (e .x .transaction) c) (e .y-of)
+    subst (λ c. PathAlong (secondEdges xs) c b) (e .x-of) (subst (λ c. PathAlong (secondEdges xs) (e .x .transaction) c) (e .y-of)
     (cover-from (secondEdges xs) idle [] xs sized-idle (λ x k m i l. absurd (among-none m)) (λ x m. absurd (among-none m)) r (λ x y m n. absurd (among-none m)) fits (λ u v s. s)
     (e .x) (e .y) (e .clash) .1 (e .order)))

@@ -8,7 +8,7 @@ use lib.Dec.{T, eqb, eqb-refl}
 use Rattle.lists.specs.Lists.{someOf}
 use Rattle.lists.proofs.Tests.{or-right, and-both}
 use Rattle.lists.proofs.Lists.{Among, some-same, some-has, map-append}
-use Rattle.trace.specs.Paths.{hasEdge, Path, reaches}
+use Rattle.trace.specs.Paths.{hasEdge, PathAlong, reaches}
 use Rattle.trace.proofs.Reach.{complete}
 use Rattle.trace.proofs.Closing.{reaches-goal}
 use Rattle.graph.specs.Transactions.{Labelled}
@@ -53,5 +53,5 @@ module _ (xs : List Labelled) (x : Labelled) (ok : Orderly (eventsOf (xs ++ (x �
   pub right-sources : RightSources xs x (sourcesOf (cellsAfter xs) x)
   right-sources = record {
     edge = source-edge;
-    path = λ b e. subst T (goal b) (complete (edges all) (Path.there e Path.here));
+    path = λ b e. subst T (goal b) (complete (edges all) (PathAlong.there e PathAlong.here));
   }
