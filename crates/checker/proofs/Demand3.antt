@@ -10,7 +10,8 @@ use Rattle.record.specs.declared.Event.{Event}
 use Rattle.record.specs.declared.Decoded.the-variants.{Good}
 use Rattle.record.specs.Answers.{Ending}
 use Rattle.record.specs.Record.{event, decoded, encoded, inTwo, inRange, records, recordsOf}
-use Rattle.record.proofs.Laws.{decoded-good, decoded-range, decode-encoded}
+use Rattle.record.proofs.Laws.{decode-encoded}
+use Rattle.record.proofs.Written.{records-written}
 use Rattle.replay.specs.Machine.{fresh, possible}
 use Rattle.lists.specs.Lists.{each, over}
 use Rattle.trace.specs.Paths.{Cycle}
@@ -35,12 +36,6 @@ use Rattle.checker.specs.Demand3.{numbersIn, Written, Violated, Trusted}
 use Rattle.checker.proofs.Commute.{swaps-replay}
 
 -- ---- what is written can be read
-
--- records written one after the other, read back
-pub records-written : (t : List Event) (rest : List ℕ) → records (length t) (each encoded t ++ rest) ≡ map encoded t
-unfolding records each encoded
-records-written [] rest = refl
-records-written (e ∷ t) rest = ap (λ l. encoded e ∷ l) (records-written t rest)
 
 -- numbers written one after the other, read back
 numbers-written : (ns rest : List ℕ) → numbersIn (length ns) (each inTwo ns ++ rest) ≡ ns

@@ -29,7 +29,7 @@ use Rattle.checker.specs.Writing.{bytesIn, numbersOf}
 use Rattle.checker.specs.Concluded.{Whole, Ready, Named, Written, Concluded}
 use Rattle.looking.proofs.Scanned.{events-size, event-at}
 use Rattle.ancestors.proofs.Searching.{found-shown}
-use Rattle.checker.proofs.Written.{over-front}
+use Rattle.lists.proofs.Lists.{over-front}
 use Rattle.checker.proofs.Linking.{numbers-size, bytes-by-number}
 
 verdict-cooperable : (es : List Event) → shortest es ≡ 0 → verdict es ≡ cooperable es

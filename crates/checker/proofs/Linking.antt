@@ -14,14 +14,14 @@ use Rattle.record.specs.declared.Event.{Event}
 use Rattle.record.specs.Record.{encoded}
 use Rattle.lists.specs.Lists.{each, over, keep, firstOf, from}
 use Rattle.lists.proofs.Tests.{by, by-same}
-use Rattle.lists.proofs.Lists.{from-step, from-none, first-true, first-false, keep-true, keep-false, map-append}
+use Rattle.lists.proofs.Lists.{from-step, from-none, first-true, first-false, keep-true, keep-false, map-append, over-front, each-map}
 use Rattle.graph.specs.Transactions.{Labelled}
 use Rattle.graph.specs.Serial.{eventsOf, threadOf}
 use Rattle.graph.specs.Held.{pastEnd, recordAt, held}
 use Rattle.graph.proofs.Held.{held-from, held-end}
 use Rattle.checker.specs.Report.{firstRecord}
 use Rattle.checker.specs.Writing.{bytesIn, Numbering, numbersFrom, numbersOf, noRecord, firstFrom, Linked, chain}
-use Rattle.checker.proofs.Written.{over-front, each-map, each-within}
+use Rattle.checker.proofs.Written.{each-within}
 
 -- ---- The numbers of a transaction's records
 

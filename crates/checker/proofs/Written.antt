@@ -1,4 +1,4 @@
--- Laws of what is written: piece after piece, and into the rest of an output.
+-- Laws of what is written, piece after piece.
 use Prim.Native.Nat.{ℕ, zero, suc, _+_, _*_, _-_, _≤_, _<_}
 use native.Mathlib.Omega.{arith}
 use native.Mathlib.Nat.{add-zero, zero-add, add-comm, mul-suc, mul-zero}
@@ -7,83 +7,11 @@ use mathlib.Core.Path.{_≡_, refl, sym, ap, ap₂, _∙_, subst}
 use mathlib.Core.List.{List, [], _∷_, _++_, map, append-assoc, append-nil}
 use lib.ListN.{length, getD, set, take, drop, length-append, length-drop, take-append-drop, drop-of-length-le}
 use lib.Seq.{set-split, take-all, take-append-seam, drop-drop, drop-cons, length-take-le, take-at, drop-append-add, sets-eq, paste, paste-suc}
-use borrow.Rule.Slice.PartMut.{putMid}
-use Rattle.lists.proofs.Places.{rest-whole}
-use Rattle.record.specs.declared.Event.{Event}
-use Rattle.record.specs.Record.{encoded, encodedOver, encodedSize}
-use Rattle.record.proofs.Laws.{encoded-over, size-over, length-encoded}
-use Rattle.lists.specs.Lists.{each, over}
-use Rattle.lists.proofs.Lists.{each-append}
+use Rattle.lists.proofs.Places.{written-nothing, written-start, length-written, written-more}
+use Rattle.lists.specs.Lists.{each, over, writtenAt}
 use mathlib.Core.Bool.{cond}
 use lib.Dec.{ltb}
-use Rattle.checker.specs.Writing.{writtenAt, Numbering, noRecord, firstFrom, lineOf}
-
--- ---- Written from a place on
-
-pub written-nothing : (l : List ℕ) (n : ℕ) → writtenAt l n [] ≡ l
-unfolding writtenAt
-written-nothing l n = ap (λ k. take n l ++ drop k l) (add-zero n) ∙ take-append-drop n l
-
-pub written-start : (l new : List ℕ) → writtenAt l 0 new ≡ over new l
-unfolding writtenAt over
-written-start l new = ap (λ k. new ++ drop k l) (zero-add (length new))
-
-pub length-written : (l : List ℕ) (n : ℕ) (new : List ℕ) → n + length new ≤ length l → length (writtenAt l n new) ≡ length l
-unfolding writtenAt
-length-written l n new h =
-    let t : length (take n l) ≡ n = length-take-le n l (omega arith) in
-    let d : length (drop (n + length new) l) ≡ length l - (n + length new) = length-drop (n + length new) l in
-    let a : length (new ++ drop (n + length new) l) ≡ length new + length (drop (n + length new) l) = length-append new (drop (n + length new) l) in
-    length-append (take n l) (new ++ drop (n + length new) l) ∙ (omega arith)
-
--- what is written after something is written with it
-pub written-more : (l : List ℕ) (n : ℕ) (new more : List ℕ) → n ≤ length l
-    → writtenAt (writtenAt l n new) (n + length new) more ≡ writtenAt l n (new ++ more)
-unfolding writtenAt
-written-more l n new more h =
-    let front : List ℕ = take n l ++ new in
-    let rest : List ℕ = drop (n + length new) l in
-    let k : ℕ = n + length new in
-    let whole : writtenAt l n new ≡ front ++ rest = sym (append-assoc (take n l) new rest) in
-    let size : length front ≡ k = length-append (take n l) new ∙ ap (λ m. m + length new) (length-take-le n l h) in
-    let t : take k (writtenAt l n new) ≡ front = ap (take k) whole ∙ take-at front rest k size in
-    let sum : k + length more ≡ n + length (new ++ more) =
-    (let a : length (new ++ more) ≡ length new + length more = length-append new more in omega arith) in
-    let d : drop (k + length more) (writtenAt l n new) ≡ drop (n + length (new ++ more)) l =
-    ap (drop (k + length more)) whole
-    ∙ ap (λ m. drop (m + length more) (front ++ rest)) (sym size)
-    ∙ drop-append-add front rest (length more)
-    ∙ drop-drop (length more) k l
-    ∙ ap (λ m. drop m l) sum in
-    let last : List ℕ = drop (n + length (new ++ more)) l in
-    ap₂ (λ (x y : List ℕ). x ++ (more ++ y)) t d
-    ∙ append-assoc (take n l) new (more ++ last)
-    ∙ ap (λ x. take n l ++ x) (sym (append-assoc new more last))
-
--- what was written over a list stands at its front
-pub over-front : (new old : List ℕ) → take (length new) (over new old) ≡ new
-unfolding over
-over-front new old = take-append-seam new (drop (length new) old)
-
--- a list copied over another, one entry more
-over-paste : {A : Type 0} (s old : List A) (j : ℕ) → j ≤ length s → over (take j s) old ≡ paste old 0 s j
-unfolding over
-over-paste s old j h = ap (λ k. take j s ++ drop k old) (length-take-le j s h ∙ sym (zero-add j))
-
-pub over-next : {A : Type 0} (s old : List A) (j : ℕ) (d : A) → j < length s → j < length old → set (over (take j s) old) j (getD s j d) ≡ over (take (suc j) s) old
-over-next {A = A} s old j d h k =
-    ap₂ (λ (l : List A) (i : ℕ). set l i (getD s j d)) (over-paste s old j (omega arith)) (sym (zero-add j))
-    ∙ paste-suc old 0 s j d (omega arith) h
-    ∙ sym (over-paste s old (suc j) h)
-
--- the n numbers of a list from place k on
-abbrev pub entries : List ℕ → ℕ → ℕ → List ℕ
-entries l zero k = []
-entries l (suc n) k = getD l k 0 ∷ entries l n (suc k)
-
-pub entries-all : (l : List ℕ) (n k : ℕ) → length l ≡ k + n → entries l n k ≡ drop k l
-entries-all l zero k h = sym (drop-of-length-le l {i = k} (omega arith))
-entries-all l (suc n) k h = ap (λ r. getD l k 0 ∷ r) (entries-all l n (suc k) (omega arith)) ∙ sym (drop-cons l k 0 (omega arith))
+use Rattle.checker.specs.Writing.{Numbering, noRecord, firstFrom, lineOf}
 
 -- Writing under way: of the whole, to be written from place n of out₀ on, the rest is still to be written, from place end of out on
 pub record Left (out₀ : List ℕ) (n : ℕ) (whole : List ℕ) (out : List ℕ) (end : ℕ) (rest : List ℕ) : Type 0 where
@@ -121,36 +49,7 @@ module _ (out₀ : List ℕ) (n : ℕ) (whole : List ℕ) where
   pub left-made : (out : List ℕ) (end : ℕ) → Left out₀ n whole out end [] → out ≡ writtenAt out₀ n whole
   left-made out end l = sym (written-nothing out end) ∙ l .made
 
--- ---- Written into the rest of an output, from place n on
-
-pub written-rest : (new out : List ℕ) (n : ℕ) → n ≤ length out → (part : List ℕ) → part ≡ over new (take (length out - n) (drop n out))
-    → putMid n (length out - n) out part ≡ writtenAt out n new
-unfolding writtenAt over
-written-rest new out n h part p =
-    let fits : length (drop n out) ≤ length out - n = omega (arith, length-drop n out) in
-    let none : drop (length out - n) (drop n out) ≡ [] = drop-of-length-le (drop n out) fits in
-    let q : part ≡ new ++ drop (n + length new) out = p ∙ ap (over new) (rest-whole out n) ∙ ap (λ x. new ++ x) (drop-drop (length new) n out) in
-    simp (q, none, append-nil)
-
--- an event
-module _ (e : Event) (out : List ℕ) (n : ℕ) (room : n + length (encoded e) ≤ length out) where
-  rest-room : 8 ≤ length (take (length out - n) (drop n out))
-  rest-room = omega (arith, ap length (rest-whole out n), length-drop n out, length-encoded e, room)
-
-  pub written-size : encodedSize (take (length out - n) (drop n out)) ≡ length (encoded e)
-  written-size = size-over (take (length out - n) (drop n out)) rest-room ∙ sym (length-encoded e)
-
-  pub written-part : (part : List ℕ) → part ≡ encodedOver e (take (length out - n) (drop n out)) → putMid n (length out - n) out part ≡ writtenAt out n (encoded e)
-  unfolding over
-  written-part part p =
-      let rest : List ℕ = take (length out - n) (drop n out) in
-      written-rest (encoded e) out n (omega arith) part (p ∙ encoded-over e rest rest-room ∙ ap (λ k. encoded e ++ drop k rest) (sym (length-encoded e)))
-
 -- numbers stored one after the other
-pub one-store : (l : List ℕ) (i a : ℕ) → i < length l → set l i a ≡ writtenAt l i (a ∷ [])
-unfolding writtenAt
-one-store l i a h = set-split l i a h ∙ ap (λ k. take i l ++ a ∷ drop k l) (sym (add-one i))
-
 pub two-stores : (l : List ℕ) (i a b : ℕ) → i + 2 ≤ length l → set (set l i a) (i + 1) b ≡ writtenAt l i (a ∷ b ∷ [])
 unfolding writtenAt
 two-stores l i a b h =
@@ -205,16 +104,6 @@ module _ (f : ℕ → List ℕ) (l out₀ : List ℕ) where
   pub going-end : (out : List ℕ) (end k : ℕ) → length l ≤ k → Going f l out₀ out end k → out ≡ over (each f l) out₀
   going-end out end k h g =
       left-made out₀ 0 (each f l) out end (subst (Left out₀ 0 (each f l) out end) (each-none k h) g) ∙ written-start out₀ (each f l)
-
-pub each-each : {A B C : Type 0} (f : B → List C) (g : A → List B) (l : List A) → each (λ x. each f (g x)) l ≡ each f (each g l)
-unfolding each
-each-each f g [] = refl
-each-each f g (x ∷ l) = ap (λ r. each f (g x) ++ r) (each-each f g l) ∙ sym (each-append f (g x) (each g l))
-
-pub each-map : {A B C : Type 0} (f : B → List C) (g : A → B) (l : List A) → each f (map g l) ≡ each (λ x. f (g x)) l
-unfolding each
-each-map f g [] = refl
-each-map f g (x ∷ l) = ap (λ r. f (g x) ++ r) (each-map f g l)
 
 -- the same of each of n records
 pub each-within : (f g : ℕ → List ℕ) (n : ℕ) (l : List ℕ) → Numbering n l → ((i : ℕ) → i < n → f i ≡ g i) → each f l ≡ each g l

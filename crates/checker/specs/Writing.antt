@@ -9,10 +9,6 @@ use lib.ListN.{length, getD, take, drop}
 use Rattle.record.specs.Record.{recordSize, event, encoded}
 use Rattle.lists.specs.Lists.{keep, firstOf, from}
 
--- numbers written into a list from place n on
-unfoldable pub writtenAt : List ℕ → ℕ → List ℕ → List ℕ
-writtenAt l n new = take n l ++ (new ++ drop (n + length new) l)
-
 -- the bytes of record i of a recording
 abbrev pub recordIn : List ℕ → ℕ → List ℕ
 recordIn input i = take recordSize (drop (recordSize * i) input)

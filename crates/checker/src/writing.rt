@@ -3,9 +3,9 @@ ghost use Prim.Native.Nat.{ℕ, _+_, _*_, _/_, _-_, _≤_};
 ghost use mathlib.Core.Path.{_≡_};
 ghost use lib.ListN.{length, getD};
 ghost use Rattle.record.specs.Record.{inTwo};
-ghost use Rattle.lists.specs.Lists.{each, over};
+ghost use Rattle.lists.specs.Lists.{each, over, writtenAt};
 ghost use Rattle.graph.specs.Held.{Few};
-ghost use Rattle.checker.specs.Writing.{writtenAt, bytesIn, lineOf, noRecord, Numbering, numbersOf, Linked, chain};
+ghost use Rattle.checker.specs.Writing.{bytesIn, lineOf, noRecord, Numbering, numbersOf, Linked, chain};
 
 // Links the records, the last first: for each transaction its first record, and for each record the next of its transaction. 1,024 is none.
 fn link(labels: &[u16], count: usize, firsts: &mut [u16], nexts: &mut [u16])

@@ -5,7 +5,8 @@ use mathlib.Core.Path.{_≡_, refl, ap, _∙_, subst}
 use mathlib.Core.List.{List, [], _∷_, _++_}
 use lib.ListN.{length, getD}
 use Rattle.checker.specs.Writing.{chain}
-use Rattle.checker.proofs.Written.{Left, left-start, left-more, left-place, left-made, one-store}
+use Rattle.checker.proofs.Written.{Left, left-start, left-more, left-place, left-made}
+use Rattle.lists.proofs.Places.{written-one}
 use Rattle.checker.proofs.Linking.{chain-more, chain-end, chain-none, chain-most}
 use Rattle.checker.proofs.writing.append_chain.Statement.{statement}
 use Rattle.checker.proofs.writing.append_chain.Tie as tie
@@ -72,7 +73,7 @@ loop-again c =
       omega arith,
       left-more old (a .n) whole (at .sequence) (at .end) (at .i ∷ []) rest _ (at .end + 1)
           (omega (arith, chain-most (a .nexts .now) (length old - a .n) (a .first))) l
-          (one-store (at .sequence) (at .end) (at .i) (omega (arith, at .inv .1 .same))) refl,
+          (written-one (at .sequence) (at .end) (at .i) (omega (arith, at .inv .1 .same))) refl,
     )
 
 same-length-2 : tie.Need-same-length-2 Inv-loop μ-loop

@@ -5,7 +5,8 @@ use mathlib.Core.Path.{_≡_, ap, _∙_}
 use mathlib.Core.List.{List}
 use lib.ListN.{length, getD}
 use borrow.Author.Needs.{needs}
-use Rattle.checker.specs.Writing.{writtenAt, numbersOf, chain}
+use Rattle.lists.specs.Lists.{writtenAt}
+use Rattle.checker.specs.Writing.{numbersOf, chain}
 use Rattle.checker.proofs.Written.{Going, going-start, going-room, going-more, going-place, going-end}
 use Rattle.checker.proofs.Linking.{none-first, chain-is}
 use Rattle.checker.proofs.writing.line_up.Statement.{statement}

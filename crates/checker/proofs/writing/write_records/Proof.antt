@@ -1,15 +1,16 @@
 -- `checker::writing::write_records` meets its contract: one record after the other into the rest of the output.
 use Prim.Native.Nat.{_+_, _/_, _-_, _≤_, _<_}
 use native.Mathlib.Omega.{arith}
-use mathlib.Core.Path.{_≡_, ap, _∙_}
+use mathlib.Core.Path.{_≡_, sym, ap, _∙_}
 use lib.ListN.{length, getD}
 use borrow.Author.Needs.{needs}
 use Rattle.record.specs.declared.Event.{Event}
 use Rattle.record.specs.Record.{event, encoded}
 use Rattle.record.proofs.Laws.{size-most, length-encoded}
-use Rattle.lists.specs.Lists.{each}
-use Rattle.checker.specs.Writing.{writtenAt, recordIn, bytesIn}
-use Rattle.checker.proofs.Written.{Going, going-start, going-room, going-more, going-end, length-each, written-part, written-size}
+use Rattle.lists.specs.Lists.{each, writtenAt}
+use Rattle.checker.specs.Writing.{recordIn, bytesIn}
+use Rattle.checker.proofs.Written.{Going, going-start, going-room, going-more, going-end, length-each}
+use Rattle.record.proofs.Written.{written-part, written-size}
 use Rattle.looking.proofs.Scanned.{part-is}
 use Rattle.checker.proofs.writing.write_records.Statement.{statement}
 use Rattle.checker.proofs.writing.write_records.Tie as tie
@@ -103,12 +104,12 @@ loop-again c =
     let a = at .before .before .before .before .args in
     let e : Event = c .before .before .before .before .event-of .result in
     let is : encoded e ≡ bytesIn (a .input .now) (getD (a .numbers .now) (at .loop .k) 0) = ap encoded (c .before .before .before .before .event-of .ensures ∙ ap event (part-is (a .input .now) (getD (a .numbers .now) (at .loop .k) 0))) in
-    let r : at .loop .n + length (encoded e) ≤ length (at .loop .out) = omega (arith, room (c .before .before .before .before .before .before .before), length-encoded e) in
+    let r : at .loop .n + 8 ≤ length (at .loop .out) = omega (arith, room (c .before .before .before .before .before .before .before), length-encoded e) in
     let w = c .before .before .encode .ensures in (
       omega arith,
       going-more (bytesIn (a .input .now)) (a .numbers .now) (a .out .now) (at .loop .out) (at .loop .n) (at .loop .k) _ _ (fits at) (omega arith) (at .loop .inv .1)
           (written-part e (at .loop .out) (at .loop .n) r _ (w .1) ∙ ap (writtenAt (at .loop .out) (at .loop .n)) is)
-          (ap (λ m. at .loop .n + m) (w .0 ∙ written-size e (at .loop .out) (at .loop .n) r ∙ ap length is)),
+          (ap (λ m. at .loop .n + m) (w .0 ∙ written-size e (at .loop .out) (at .loop .n) r ∙ sym (length-encoded e) ∙ ap length is)),
     )
 
 same-length : tie.Need-same-length Inv-loop μ-loop
