@@ -1,5 +1,7 @@
 // The rows of ancestors: what both engines do to them once they know the sources of a record.
 // A source is a transaction from which the record makes an edge into its own transaction a.
+#![tactic(auto)]
+
 ghost use Rattle.std.specs.Prelude.{◌≡◌, [], ◌∷◌};
 ghost use Rattle.ancestors.specs.Others.{is_other, others};
 ghost use Rattle.ancestors.specs.Sources.{spread_to, looked, begun_with, Joins};

@@ -1,4 +1,6 @@
 // The checker: one finished recording in, one answer out.
+#![tactic(auto)]
+
 mod concluding;
 mod writing;
 

@@ -1,4 +1,6 @@
 // Numbers in decimal, as bytes of ASCII.
+#![tactic(auto)]
+
 ghost use Rattle.std.specs.Prelude.{◌≡◌, ◌+◌, ◌<◌, set};
 ghost use Rattle.decimal.specs.Decimal.{digit, written};
 

@@ -1,5 +1,7 @@
 // Reads a recording from standard input, at most 8,200 bytes of it, and prints the picture of its graph in the DOT language.
 // A refusal is the line `refused NUMBER RECORD`.
+#![tactic(auto)]
+
 use libc::{STDIN_FILENO, STDOUT_FILENO};
 use picture::Drawn;
 use record::Refusal;

@@ -1,4 +1,6 @@
 // Runs the examples of document 01 through the checker and prints, for each, the answer and the whole of what is left.
+#![tactic(auto)]
+
 mod printing;
 mod recordings;
 

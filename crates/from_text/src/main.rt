@@ -1,6 +1,8 @@
 // Lines of text on standard input, as records on standard output. A refusal is the line `refused NUMBER RECORD`.
 // Of more than 32,768 bytes the first 32,768 are read as a text, and in the rest line feeds are counted: with over 1,024 in
 // all the input is refused 2. Otherwise the first part tells the answer of the whole (text/proofs/Right, `long-text`).
+#![tactic(auto)]
+
 use libc::{STDIN_FILENO, STDOUT_FILENO};
 use record::Refusal;
 use text::Outcome;

@@ -1,4 +1,6 @@
 // The graph of transactions: when two operations conflict, and which transaction each belongs to.
+#![tactic(auto)]
+
 mod compare;
 mod tally;
 

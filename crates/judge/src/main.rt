@@ -1,4 +1,6 @@
 // Reads a recording from standard input, at most 8,200 bytes of it, and prints what the checker says of it.
+#![tactic(auto)]
+
 use checker::Answer;
 use libc::{STDIN_FILENO, STDOUT_FILENO};
 

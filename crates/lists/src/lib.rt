@@ -1,1 +1,2 @@
 // Words and laws of lists and tests, each once: definitions and laws, and no code.
+#![tactic(auto)]

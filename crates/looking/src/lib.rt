@@ -1,4 +1,6 @@
 // Looking through a recording, once: whether it is refused, and up to there what the graph sees of each record, and its transaction.
+#![tactic(auto)]
+
 mod seeing;
 
 ghost use Rattle.std.specs.Prelude.{◌≡◌};

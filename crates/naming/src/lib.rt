@@ -1,4 +1,6 @@
 // The transactions that an answer names, by the rows that an engine left in the work area: all in serial order, or the cycle.
+#![tactic(auto)]
+
 mod cycle;
 mod order;
 

@@ -1,4 +1,6 @@
 // The picture of a recording's graph, in the DOT language.
+#![tactic(auto)]
+
 mod linking;
 mod putting;
 

@@ -1,4 +1,6 @@
 // The plain engine: each record is compared with all before it.
+#![tactic(auto)]
+
 mod comparing;
 
 ghost use Rattle.std.specs.Prelude.{◌≡◌, [], min};

@@ -1,4 +1,6 @@
 // Proposed yields: a recording with a yield put before each record that would be a violation.
+#![tactic(auto)]
+
 mod reading;
 mod walking;
 mod writing;

@@ -1,5 +1,7 @@
 // Reads a recording from standard input, at most 8,200 bytes of it, and prints the yields that are proposed for it. Where an argument names a file,
 // the finished recording is also written to it; the file must be new.
+#![tactic(auto)]
+
 use libc::{STDIN_FILENO, STDOUT_FILENO};
 use proposal::Proposed;
 

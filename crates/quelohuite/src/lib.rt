@@ -1,5 +1,7 @@
 // The checker for C and Rust: exported functions over `checker::judge`, `checker::judge_plain`, `reasons::why`,
 // `picture::draw` and `proposal::propose`, each with its whole promise.
+#![tactic(auto)]
+
 ghost use Rattle.std.specs.Prelude.{◌≡◌, [], ◌∷◌};
 ghost use Rattle.checker.specs.Verdict.{numbers};
 ghost use Rattle.record.specs.Answers.{Ending};

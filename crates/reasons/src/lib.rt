@@ -1,4 +1,6 @@
 // Why an edge of the reported cycle is there: the two records that make it, and on what they conflict.
+#![tactic(auto)]
+
 mod reasoning;
 mod searching;
 mod telling;

@@ -1,4 +1,6 @@
 // The second engine: for each lock, thread and variable the last transaction, and rows of ancestors that are closed as edges arrive.
+#![tactic(auto)]
+
 mod cells;
 mod gather;
 

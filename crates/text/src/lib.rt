@@ -1,4 +1,6 @@
 // The written form of records, for tests: a line for each, such as `0 write 3 5`.
+#![tactic(auto)]
+
 mod making;
 mod reading;
 mod scan;

@@ -1,5 +1,7 @@
 // Records on standard input, as lines of text on standard output. A refusal is the line `refused NUMBER RECORD`.
 // Of more than 8,200 bytes the first 8,200 are taken, so such an input is refused 2.
+#![tactic(auto)]
+
 use libc::{STDIN_FILENO, STDOUT_FILENO};
 use record::Refusal;
 use text::Outcome;

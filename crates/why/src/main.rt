@@ -1,5 +1,7 @@
 // Reads a recording from standard input, at most 8,200 bytes of it, and prints the checker's first line and, on a violation, why each edge of the
 // reported cycle is there.
+#![tactic(auto)]
+
 use checker::Answer;
 use libc::{STDIN_FILENO, STDOUT_FILENO};
 
