@@ -18,7 +18,7 @@ use looking::Looked;
 use record::Refusal;
 
 // What the checker answers.
-#[derive(Drop)]
+#[derive(Clone, Copy)]
 pub enum Answer {
     Cooperable { records: usize, transactions: usize },
     Violation { record: usize, length: usize },

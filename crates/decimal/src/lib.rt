@@ -5,7 +5,7 @@ ghost use Rattle.std.specs.Prelude.{◌≡◌, ◌+◌, ◌<◌, set};
 ghost use Rattle.decimal.specs.Decimal.{digit, written};
 
 // A number's digits: the first `len` of the bytes, the highest first. The others are 0.
-#[derive(Drop)]
+#[derive(Clone, Copy)]
 pub struct Digits {
     pub bytes: [u8; 5],
     pub len: usize,

@@ -16,7 +16,7 @@ fn print_refusal(refusal: Refusal) {
 }
 
 // A piece of standard input: how many bytes it has, and how many of them are line feeds.
-#[derive(Drop)]
+#[derive(Clone, Copy)]
 struct Piece {
     bytes: usize,
     feeds: usize,

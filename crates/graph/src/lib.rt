@@ -12,7 +12,7 @@ ghost use Rattle.graph.specs.Transactions.{tally_of, numbered, counted};
 use record::Event;
 
 // What counting an operation finds: its transaction, or that it would begin a 513th.
-#[derive(Drop)]
+#[derive(Clone, Copy)]
 pub enum Numbered {
     Of(u16),
     Full,

@@ -11,7 +11,7 @@ ghost use Rattle.looking.specs.Looked.{Looking, looked, arrays_of};
 use record::Refusal;
 
 // What is found in a recording: the refusal, none where its number is 0, and how many transactions begin before it.
-#[derive(Drop)]
+#[derive(Clone, Copy)]
 pub struct Looked {
     pub refusal: Refusal,
     pub transactions: u16,

@@ -10,7 +10,7 @@ use graph::Numbered;
 use record::{Decoded, Event, Refusal};
 
 // A record, seen after those before it: its event and its transaction, or its lowest number.
-#[derive(Drop)]
+#[derive(Clone, Copy)]
 pub enum Seen {
     Sound { event: Event, transaction: u16 },
     Faulty(u8),

@@ -12,7 +12,7 @@ ghost use Rattle.picture.specs.Drawn.{numbers, size_checks, drawn};
 use record::Refusal;
 
 // What drawing ends in: so many bytes written, or a refusal.
-#[derive(Drop)]
+#[derive(Clone, Copy)]
 pub enum Drawn {
     Written { bytes: usize },
     Refused(Refusal),

@@ -14,7 +14,7 @@ ghost use Rattle.proposal.specs.Proposed.{numbers, size_checks, proposed, told};
 use record::Refusal;
 
 // What comes of it: how many bytes the finished recording has and how many yields were added, or a refusal.
-#[derive(Drop)]
+#[derive(Clone, Copy)]
 pub enum Proposed {
     Finished { bytes: usize, yields: usize },
     Refused(Refusal),

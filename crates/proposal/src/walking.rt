@@ -79,7 +79,7 @@ fn put<'a>(
 }
 
 // A step of the walk: the number of the refusal, or 0; and 1 where a yield is put before the event, or else 0.
-#[derive(Drop)]
+#[derive(Clone, Copy)]
 pub struct Step {
     pub number: u8,
     pub mark: u8,

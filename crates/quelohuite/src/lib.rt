@@ -18,7 +18,7 @@ use proposal::Proposed;
 // An answer in numbers. Kind 0 is cooperable: records and transactions. Kind 1 is violation: record and cycle length.
 // Kind 2 is refused: number and record.
 #[repr(C)]
-#[derive(Drop)]
+#[derive(Clone, Copy)]
 pub struct Told {
     pub kind: u64,
     pub first: u64,
@@ -73,7 +73,7 @@ pub extern "C" fn quelohuite_judge_plain(input: &[u8], out: &mut [u8], work: &mu
 // What is told of an edge of the cycle, in numbers. Kind 0 is because: first record, second record, reason (0 thread, 1 variable, 2 lock,
 // 3 fork/join) and its number. Kind 1 is no such edge. Kind 2 is refused: number and record. What a kind doesn't have is 0.
 #[repr(C)]
-#[derive(Drop)]
+#[derive(Clone, Copy)]
 pub struct ToldWhy {
     pub kind: u64,
     pub first: u64,

@@ -16,7 +16,7 @@ use checker::Answer;
 use record::Refusal;
 
 // On what two operations conflict: the thread, variable or lock of both, or the thread that one of them forks or joins.
-#[derive(Drop)]
+#[derive(Clone, Copy)]
 pub enum Reason {
     Thread(u8),
     Variable(u8),
@@ -49,7 +49,7 @@ pub fn number_of(reason: Reason) -> u16
 }
 
 // What makes an edge: two records, and the reason.
-#[derive(Drop)]
+#[derive(Clone, Copy)]
 pub struct Cause {
     pub first: usize,
     pub second: usize,
@@ -57,7 +57,7 @@ pub struct Cause {
 }
 
 // What is told of an edge.
-#[derive(Drop)]
+#[derive(Clone, Copy)]
 pub enum Told {
     Because(Cause),
     NoSuchEdge,

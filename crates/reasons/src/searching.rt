@@ -8,7 +8,7 @@ use crate::{Cause, reasoning};
 use record::Event;
 
 // Two records, the first before the second.
-#[derive(Drop)]
+#[derive(Clone, Copy)]
 pub struct Pair {
     pub first: usize,
     pub second: usize,

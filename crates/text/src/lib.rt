@@ -15,7 +15,7 @@ use record::{Decoded, Event, Refusal};
 pub use whole::line_feeds;
 
 // What reading or writing a file ends in: so many bytes written, or a refusal.
-#[derive(Drop)]
+#[derive(Clone, Copy)]
 pub enum Outcome {
     Done { bytes: usize },
     Refused(Refusal),

@@ -8,7 +8,7 @@ use crate::scan::{letter, letters};
 use record::Event;
 
 // A line as far as it is made: the first `len` of its bytes. No event has a line of more than 23.
-#[derive(Drop)]
+#[derive(Clone, Copy)]
 pub struct Line {
     pub bytes: [u8; 24],
     pub len: usize,
