@@ -1,0 +1,37 @@
+-- `ancestors::spread` meets its contract: after d turns the first d rows are seen to.
+use Prim.Native.Nat.{ℕ, ◌-◌}
+use native.Mathlib.Omega.{arith}
+use mathlib.Core.Path.{◌≡◌, refl, sym, ap, ◌∙◌}
+use mathlib.Core.Logic.{⊎_elim}
+use mathlib.Core.Bool.{Bool, cond}
+use lib.ListN.{length}
+use Rattle.rows.specs.Bits.{joined}
+use Rattle.ancestors.specs.Sources.{spread_to}
+use Rattle.ancestors.proofs.Joining.{spread-next}
+use Rattle.ancestors.proofs.spread.Goals as goal
+
+pub loop-d-init : goal.loop-d-init
+unfolding spread_to
+loop-d-init c = (omega arith, refl, refl)
+
+pub loop-d-preserved : goal.loop-d-preserved
+loop-d-preserved c =
+    let a = c.args in
+    (
+      omega arith,
+      ⊎_elim (λ w. ap length w.5 ∙ w.2.kept.0 ∙ c.loop-d.invariant.1) (λ w. ap length w.1 ∙ c.loop-d.invariant.1) c.if-test.branch,
+      spread-next a.work.now c.loop-d.work c.if-test.work c.loop-d.d a.a c.loop-d.invariant.2
+          (⊎_elim
+          (λ w. w.5 ∙ w.2.ensures ∙ sym (ap (λ (b : Bool). cond b (joined c.loop-d.work c.loop-d.d a.a) c.loop-d.work) (sym c.test.ensures ∙ w.0.taken)))
+          (λ w. w.1 ∙ sym (ap (λ (b : Bool). cond b (joined c.loop-d.work c.loop-d.d a.a) c.loop-d.work) (sym c.test.ensures ∙ w.0.left)))
+          c.if-test.branch),
+    )
+
+pub shape_of-work : goal.shape_of-work
+shape_of-work c = c.loop-d.invariant.1
+
+pub returns : goal.returns
+returns c =
+    let a = c.args in
+    let e : c.loop-d.d ≡ a.n = omega arith in
+    c.loop-d.invariant.2 ∙ ap (λ (k : ℕ). spread_to k a.work.now a.a) e

@@ -1,0 +1,9 @@
+-- `graph::compare::untouched` meets its contract. Assumes nothing.
+use borrow.Author.Tests.{ne_eqb}
+use Rattle.graph.proofs.compare.untouched.Goals as goal
+
+pub returns-in-3 : goal.returns-in-3
+returns-in-3 c = rw c.in-3.keys1
+
+pub returns-in_default : goal.returns-in_default
+returns-in_default c = rw (ne_eqb _ _ c.in_default.rest.1)

@@ -1,0 +1,15 @@
+-- `picture::putting::put_rows` meets its contract: the lines of the edges from those below a are put.
+use Prim.Native.Nat.{◌+◌, ◌-◌, ◌*◌, ◌≤◌}
+use mathlib.Core.Path.{◌≡◌}
+use lib.ListN.{length}
+use Rattle.lists.specs.Lists.{each, from, below}
+use Rattle.picture.specs.Putting.{row_lines}
+use Rattle.picture.proofs.Pieces.{Goes}
+use Rattle.picture.proofs.putting.put_rows.Given as goal
+
+abbrev pub invariant-loop-a : goal.invariant-loop-a
+invariant-loop-a l =
+    (l.a ≤ l.n) × (l.end ≤ l.at + 6144 * l.a) × (length l.out ≡ length l.initial.out) × Goes (each (row_lines l.work l.n) (below l.n)) l.at l.initial.out (each (row_lines l.work l.n) (from l.a (l.n - l.a))) l.end l.out
+
+abbrev pub decreases-loop-a : goal.decreases-loop-a
+decreases-loop-a l = l.n - l.a

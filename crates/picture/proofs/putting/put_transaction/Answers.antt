@@ -1,0 +1,20 @@
+-- `picture::putting::put_transaction` meets its contract: the number, and then the end of the line.
+use native.Mathlib.Omega.{arith}
+use Rattle.decimal.specs.Decimal.{decimal}
+use Rattle.decimal.proofs.Decimals.{size-three}
+use Rattle.picture.specs.Picture.{line_end, transaction_line}
+use Rattle.picture.proofs.Pieces.{puts-both}
+use Rattle.picture.proofs.Texts.{transaction-size}
+use Rattle.picture.proofs.putting.put_transaction.Goals as goal
+
+pub put-requires : goal.put-requires
+put-requires c =
+    let a = c.args in
+    (omega arith, omega (arith, c.put_number-named.ensures.end, size-three a.a (omega arith)))
+
+pub returns : goal.returns
+unfolding transaction_line
+returns c =
+    let a = c.args in
+    let all = puts-both (decimal a.a) line_end a.at c.put_number-named.result c.put.result a.out.now _ _ c.put_number-named.auto.out c.put_number-named.ensures c.put.ensures in
+    (all, omega (arith, all.end, transaction-size a.a (omega arith)))

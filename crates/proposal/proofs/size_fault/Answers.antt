@@ -1,0 +1,25 @@
+-- `proposal::size_fault` meets its contract: 1 and 2 as for any input, then at each `return` the tests that led there say which check fails.
+use native.Mathlib.Omega.{arith}
+use mathlib.Core.Path.{sym, ◌∙◌}
+use lib.ListN.{length}
+use borrow.Author.Tests.{le-leb, lt-leb}
+use Rattle.record.specs.Faults.{first_fault}
+use Rattle.looking.proofs.Refusing.{inputs-first, inputs-next}
+use Rattle.proposal.specs.Proposed.{size_checks}
+use Rattle.proposal.proofs.size_fault.Goals as goal
+
+pub returns-then-number-ne0 : goal.returns-then-number-ne0
+unfolding first_fault size_checks
+returns-then-number-ne0 c = let a = c.args in inputs-first a.input.now _ c.input_fault-number.result c.input_fault-number.ensures c.if-number-ne0.true
+
+pub returns-then-out-lt8192 : goal.returns-then-out-lt8192
+unfolding first_fault size_checks
+returns-then-out-lt8192 c = let a = c.args in sym (inputs-next a.input.now _ (sym c.input_fault-number.ensures ∙ c.if-number-ne0.false) ∙ simp (lt-leb 8192 (length a.out.now) (omega arith)))
+
+pub returns-then-work-lt4096 : goal.returns-then-work-lt4096
+unfolding first_fault size_checks
+returns-then-work-lt4096 c = let a = c.args in sym (inputs-next a.input.now _ (sym c.input_fault-number.ensures ∙ c.if-number-ne0.false) ∙ simp (le-leb 8192 (length a.out.now) (omega arith), lt-leb 4096 (length a.work.now) (omega arith)))
+
+pub returns : goal.returns
+unfolding first_fault size_checks
+returns c = let a = c.args in sym (inputs-next a.input.now _ (sym c.input_fault-number.ensures ∙ c.if-number-ne0.false) ∙ simp (le-leb 8192 (length a.out.now) (omega arith), le-leb 4096 (length a.work.now) (omega arith)))

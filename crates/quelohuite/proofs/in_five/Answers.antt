@@ -1,0 +1,11 @@
+-- `quelohuite::in_five` meets its contract. Assumes nothing.
+use Rattle.quelohuite.proofs.in_five.Goals as goal
+
+pub returns-in-Because : goal.returns-in-Because
+returns-in-Because c = rw (c.told-1.given.1, c.name_of.ensures, c.number_of.ensures)
+
+pub returns-in-NoSuchEdge : goal.returns-in-NoSuchEdge
+returns-in-NoSuchEdge c = rw c.enum_told-1.given.1 c.without_reason.ensures
+
+pub returns-in-Refused : goal.returns-in-Refused
+returns-in-Refused c = rw c.told-in-Refused-1.given.1 c.without_reason-in-Refused.ensures

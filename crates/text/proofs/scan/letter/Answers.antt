@@ -1,0 +1,8 @@
+-- `text::letter` meets its contract: the table is the names, each in eight places.
+use Rattle.text.specs.Line.{names, ascii}
+use Rattle.text.proofs.Scans.{letters-right}
+use Rattle.text.proofs.scan.letter.Goals as goal
+
+pub returns : goal.returns
+unfolding names ascii
+returns c = letters-right c.args.kind c.args.j c.requires.0 c.requires.1 c.requires.2
