@@ -13,35 +13,35 @@ past-four n k h p q r s = omega arith
 
 pub returns-in-2 : goal.returns-in-2
 unfolding operation
-returns-in-2 c = rw c.in-2.keys1
+returns-in-2 c = rw c.in-2.is
 
 pub returns-in-3 : goal.returns-in-3
 unfolding operation
-returns-in-3 c = rw c.in-3.keys2
+returns-in-3 c = rw c.in-3.is
 
 pub returns-in-4 : goal.returns-in-4
 unfolding operation
-returns-in-4 c = rw c.in-4.keys3
+returns-in-4 c = rw c.in-4.is
 
 pub returns-in-5 : goal.returns-in-5
 unfolding operation
-returns-in-5 c = rw c.in-5.keys4
+returns-in-5 c = rw c.in-5.is
 
 pub returns-in-6 : goal.returns-in-6
 unfolding operation
-returns-in-6 c = rw c.in-6.keys5
+returns-in-6 c = rw c.in-6.is
 
 pub returns-in-7 : goal.returns-in-7
 unfolding operation
-returns-in-7 c = rw c.in-7.keys6
+returns-in-7 c = rw c.in-7.is
 
 pub returns-in-8 : goal.returns-in-8
 unfolding operation
-returns-in-8 c = rw c.in-8.keys7
+returns-in-8 c = rw c.in-8.is
 
 pub returns-in-9 : goal.returns-in-9
 unfolding operation
-returns-in-9 c = rw c.in-9.keys8
+returns-in-9 c = rw c.in-9.is
 
 pub returns-in-0-to-1 : goal.returns-in-0-to-1
 returns-in-0-to-1 c = let a = c.args in sym (operation-low a.kind a.target a.value (omega arith))
@@ -49,7 +49,5 @@ returns-in-0-to-1 c = let a = c.args in sym (operation-low a.kind a.target a.val
 pub returns-in_default : goal.returns-in_default
 returns-in_default c =
     let a = c.args in
-    let m = c.in_default-1.rest in
-    let six : 6 ≤ a.kind = past-four 2 a.kind (omega arith) m.0.0.0.0.0.0.0.1 m.0.0.0.0.0.0.1 m.0.0.0.0.0.1 m.0.0.0.0.1 in
-    let ten : 10 ≤ a.kind = past-four 6 a.kind six m.0.0.0.1 m.0.0.1 m.0.1 m.1 in
+    let ten : 10 ≤ a.kind = omega arith in
     sym (operation-high a.kind a.target a.value ten)
