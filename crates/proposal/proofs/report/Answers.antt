@@ -67,7 +67,7 @@ returns-then-stopped-ne0 c =
     let e = looked (goal.at.returns-then-stopped-ne0 c).After-clear in
     let a = first (goal.at.returns-then-stopped-ne0 c).After-clear in
     let r = e.before.before.refusal-of in
-    let size : length (rows_at k) ≡ length (work_of a) = c.walk-stopped.auto.work in
+    let size : length (rows_at (goal.at.returns-then-stopped-ne0 c).After-clear) ≡ length (work_of a) = c.walk-stopped.auto.work in
     refused-room (input_of a) (out_of a) (work_of a) (lines_of a) (fit (fitting e)) r.result r.ensures e.if2.left
     (marks_at (goal.at.returns-then-stopped-ne0 c).After-clear) (rows_at (goal.at.returns-then-stopped-ne0 c).After-clear) _ c.walk-stopped.result c.walk-stopped.ensures size c.clear.ensures c.if-stopped-ne0.true
 
@@ -76,7 +76,7 @@ write_records-bytes-requires c =
     let e = looked (goal.at.write_records-bytes-requires c).After-clear in
     let a = first (goal.at.write_records-bytes-requires c).After-clear in
     let r = e.before.before.refusal-of in
-    let size : length (rows_at k) ≡ length (work_of a) = c.walk-stopped.auto.work in (
+    let size : length (rows_at (goal.at.write_records-bytes-requires c).After-clear) ≡ length (work_of a) = c.walk-stopped.auto.work in (
       (walk-ready (input_of a) (out_of a) (work_of a) (lines_of a) (fit (fitting e)) r.result r.ensures e.if2.left).0,
       out-fits (input_of a) (out_of a) (work_of a) (lines_of a) (fit (fitting e)) r.result r.ensures e.if2.left
           (marks_at (goal.at.write_records-bytes-requires c).After-clear) (rows_at (goal.at.write_records-bytes-requires c).After-clear) _ c.walk-stopped.result c.walk-stopped.ensures size c.clear.ensures c.if-stopped-ne0.false,
@@ -94,7 +94,7 @@ returns c =
     let e = looked (goal.at.returns c).After-clear in
     let a = first (goal.at.returns c).After-clear in
     let r = e.before.before.refusal-of in
-    let size : length (rows_at k) ≡ length (work_of a) = c.walk-stopped.auto.work in
+    let size : length (rows_at (goal.at.returns c).After-clear) ≡ length (work_of a) = c.walk-stopped.auto.work in
     let records = c.write_records-bytes.ensures in
     let lines = c.write_lines-yields.ensures in
     proposed-whole (input_of a) (out_of a) (work_of a) (lines_of a) (fit (fitting e)) r.result r.ensures e.if2.left

@@ -8,13 +8,13 @@ pub returns-then-x-u : goal.returns-then-x-u
 returns-then-x-u c = rw (eq-eqb _ _ c.if-x-u.true)
 
 pub returns-in-4 : goal.returns-in-4
-returns-in-4 c = rw (ne_eqb _ _ c.if-x-u.false, c.in-4.keys1) (sym (or-false _))
+returns-in-4 c = rw (ne_eqb _ _ c.if-x-u.false, c.in-4.is) (sym (or-false _))
 
 pub returns-then-y-t : goal.returns-then-y-t
-returns-then-y-t c = rw (ne_eqb _ _ c.if-x-u.false, c.in-5.keys2, eq-eqb _ _ c.if-y-t.true)
+returns-then-y-t c = rw (ne_eqb _ _ c.if-x-u.false, c.in-5.is, eq-eqb _ _ c.if-y-t.true)
 
 pub returns-else-y-t : goal.returns-else-y-t
-returns-else-y-t c = rw (ne_eqb _ _ c.if-x-u.false, c.in-5.keys2, ne_eqb _ _ c.if-y-t.false)
+returns-else-y-t c = rw (ne_eqb _ _ c.if-x-u.false, c.in-5.is, ne_eqb _ _ c.if-y-t.false)
 
 pub returns-in_default : goal.returns-in_default
 returns-in_default c = rw (ne_eqb _ _ c.if-x-u.false, ne_eqb _ _ c.in_default.rest.1, ne_eqb _ _ c.in_default.rest.0.1)

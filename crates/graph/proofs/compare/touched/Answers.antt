@@ -5,10 +5,10 @@ use borrow.Author.Tests.{ne_eqb}
 use Rattle.graph.proofs.compare.touched.Goals as goal
 
 pub returns-in-1 : goal.returns-in-1
-returns-in-1 c = rw c.in-1.keys1 (sym (or-false _))
+returns-in-1 c = rw c.in-1.is (sym (or-false _))
 
 pub returns-in-3 : goal.returns-in-3
-returns-in-3 c = rw c.in-3.keys2
+returns-in-3 c = rw c.in-3.is
 
 pub returns-in_default : goal.returns-in_default
 returns-in_default c = rw (ne_eqb _ _ c.in_default.rest.1, ne_eqb _ _ c.in_default.rest.0.1)

@@ -19,7 +19,7 @@ loop-k-init c =
 
 pub link_record-requires : goal.link_record-requires
 link_record-requires c =
-    let few : Few start.args.count start.args.labels.now = c.requires.1 in
+    let few : Few c.args.count c.args.labels.now = c.requires.1 in
     ((omega arith, λ j h. few j (omega arith)), c.loop-k.invariant.1)
 
 pub loop-k-preserved : goal.loop-k-preserved

@@ -18,24 +18,24 @@ returns-then-entry-holder_before c = λ values lives. lock-wrong _ _ _ _ (omega 
 
 pub overflow_add-lock : goal.overflow_add-lock
 overflow_add-lock c =
-    let inside : c.args.lock < 32 = held-within c.args.holders.now _ _ _ _ c.in-5.keys3 (held (goal.at.overflow_add-lock c).Else-entry-holder_before) c.entry-arg-2-1.given.0 in
+    let inside : c.args.lock < 32 = held-within c.args.holders.now _ _ _ _ c.in-5.is (held (goal.at.overflow_add-lock c).Else-entry-holder_before) c.entry-arg-2-1.given.0 in
     omega arith
 
 pub returns-in-3 : goal.returns-in-3
 returns-in-3 c =
-    λ values lives. rw (c.set_entry.ensures, add-one) (acquire-right _ _ _ _ c.in-3.keys1 (held (goal.at.returns-in-3 c).Else-entry-holder_before))
+    λ values lives. rw (c.set_entry.ensures, add-one) (acquire-right _ _ _ _ c.in-3.is (held (goal.at.returns-in-3 c).Else-entry-holder_before))
 
 pub returns-in-4 : goal.returns-in-4
 returns-in-4 c =
-    λ values lives. rw c.set_entry-in-4.ensures (release-right _ _ _ _ c.in-4.keys2 (held (goal.at.returns-in-4 c).Else-entry-holder_before))
+    λ values lives. rw c.set_entry-in-4.ensures (release-right _ _ _ _ c.in-4.is (held (goal.at.returns-in-4 c).Else-entry-holder_before))
 
 pub returns-in-5 : goal.returns-in-5
 returns-in-5 c =
-    λ values lives. rw (c.set_entry-in-5-2.ensures, c.set_entry-in-5.ensures, add-one) (prewait-right _ _ _ _ c.in-5.keys3 (held (goal.at.returns-in-5 c).Else-entry-holder_before))
+    λ values lives. rw (c.set_entry-in-5-2.ensures, c.set_entry-in-5.ensures, add-one) (prewait-right _ _ _ _ c.in-5.is (held (goal.at.returns-in-5 c).Else-entry-holder_before))
 
 pub returns-in-6 : goal.returns-in-6
 returns-in-6 c =
-    λ values lives. rw (c.set_entry-in-6-2.ensures, c.set_entry-in-6.ensures, add-one) (postwait-right _ _ _ _ c.in-6.keys4 (held (goal.at.returns-in-6 c).Else-entry-holder_before))
+    λ values lives. rw (c.set_entry-in-6-2.ensures, c.set_entry-in-6.ensures, add-one) (postwait-right _ _ _ _ c.in-6.is (held (goal.at.returns-in-6 c).Else-entry-holder_before))
 
 pub returns-in_default : goal.returns-in_default
 returns-in_default c =

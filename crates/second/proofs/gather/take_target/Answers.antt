@@ -14,7 +14,7 @@ pub returns-in-2 : goal.returns-in-2
 returns-in-2 c =
     let a = c.args in
     let s : Cells = cells_of a.locks.now a.threads.now a.writers.now a.readers.now in
-    let k = c.in-2.keys1 in
+    let k = c.in-2.is in
     (
       joins-asked s a.work.now _ a.a a.kind a.target c.take_write.result (Key.writer a.target ∷ readers_of a.target) (asked-write a.kind a.target k)
           (subst (λ (l : List ℕ). Joins a.work.now a.a (others a.a (get_or a.writers.now a.target 0 ∷ l)) c.take_write.result c.take_write.new.work) (sym (readers-are s a.target)) c.take_write.ensures.0),
@@ -26,14 +26,14 @@ returns-in-8 c =
     let a = c.args in
     let s : Cells = cells_of a.locks.now a.threads.now a.writers.now a.readers.now in (
       joins-asked s a.work.now _ a.a a.kind a.target _ [] (asked-none a.kind a.target (omega arith) (λ e. omega arith)) (joins-nothing a.work.now a.a),
-      store-fork _ _ _ _ _ _ _ _ _ c.in-8.keys2 c.set_entry.ensures,
+      store-fork _ _ _ _ _ _ _ _ _ c.in-8.is c.set_entry.ensures,
     )
 
 pub returns-in-9 : goal.returns-in-9
 returns-in-9 c =
     let a = c.args in
     let s : Cells = cells_of a.locks.now a.threads.now a.writers.now a.readers.now in
-    let k = c.in-9.keys3 in (
+    let k = c.in-9.is in (
       joins-asked s a.work.now _ a.a a.kind a.target _ (Key.thread a.target ∷ []) (asked-join a.kind a.target k) (joins-cell _ _ _ _ _ _ c.entry-last.ensures c.join_one.ensures),
       store-join s a.t a.kind a.target (a.a + 1) k,
     )

@@ -15,7 +15,7 @@ returns-then-leads c =
     let a = c.args in
     let s : Cells = cells_of a.locks.now a.threads.now a.writers.now a.readers.now in
     let p = leads a.work.now a.a in
-    leads-asked s p a.kind a.target true (Key.writer a.target ∷ readers_of a.target) (asked-write a.kind a.target c.in-2.keys1)
+    leads-asked s p a.kind a.target true (Key.writer a.target ∷ readers_of a.target) (asked-write a.kind a.target c.in-2.is)
     (leads-true p (get_or a.writers.now a.target 0) (map (cell s) (readers_of a.target)) c.leads.result c.leads.ensures c.if-leads.true)
 
 pub returns-else-leads : goal.returns-else-leads
@@ -23,7 +23,7 @@ returns-else-leads c =
     let a = c.args in
     let s : Cells = cells_of a.locks.now a.threads.now a.writers.now a.readers.now in
     let p = leads a.work.now a.a in
-    leads-asked s p a.kind a.target c.reader_leads.result (Key.writer a.target ∷ readers_of a.target) (asked-write a.kind a.target c.in-2.keys1)
+    leads-asked s p a.kind a.target c.reader_leads.result (Key.writer a.target ∷ readers_of a.target) (asked-write a.kind a.target c.in-2.is)
     (leads-later p (get_or a.writers.now a.target 0) (map (cell s) (readers_of a.target)) c.leads.result c.reader_leads.result c.leads.ensures c.if-leads.false
     (c.reader_leads.ensures ∙ ap (some_of p) (sym (readers-are s a.target))))
 
@@ -32,7 +32,7 @@ returns-in-9 c =
     let a = c.args in
     let s : Cells = cells_of a.locks.now a.threads.now a.writers.now a.readers.now in
     let p = leads a.work.now a.a in
-    leads-asked s p a.kind a.target c.leads-in-9.result (Key.thread a.target ∷ []) (asked-join a.kind a.target c.in-9.keys2)
+    leads-asked s p a.kind a.target c.leads-in-9.result (Key.thread a.target ∷ []) (asked-join a.kind a.target c.in-9.is)
     (leads_one p c.entry.result (get_or a.threads.now a.target 0) c.leads-in-9.result c.entry.ensures c.leads-in-9.ensures)
 
 pub returns-in-0-to-1 : goal.returns-in-0-to-1
