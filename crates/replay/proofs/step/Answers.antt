@@ -26,7 +26,7 @@ returns-then-entry-wait_before c = wait-wrong _ _ (life (goal.at.returns-then-en
 
 pub lock-requires : goal.lock-requires
 lock-requires c =
-    let low : c.args.e.thread < 16 = lives-within c.args.lives.now _ 16 (life (goal.at.lock-requires c).Else-entry-ne1) c.entry-arg-2-1.given.0 in
+    let low : c.args.e.thread < 16 = lives-within c.args.lives.now _ 16 (life (goal.at.lock-requires c).Else-entry-ne1) (omega arith) in
     search rules
 
 pub returns-in-1-to-2 : goal.returns-in-1-to-2

@@ -8,4 +8,4 @@ use Rattle.graph.proofs.compare.code_of.Goals as goal
 
 pub returns : goal.returns
 unfolding code
-returns c = ap (λ rows. get_or (get_or rows (c.args.k - 1) []) (c.args.l - 1) 0) c.requires.0
+returns c = ap (λ rows. get_or (get_or rows (c.args.k - 1) []) (c.args.l - 1) 0) c.requires.table_value

@@ -15,6 +15,3 @@ returns-then-y-t c = rw (ne_eqb _ _ c.if-x-u.false, c.in-5.is, eq-eqb _ _ c.if-y
 
 pub returns-else-y-t : goal.returns-else-y-t
 returns-else-y-t c = rw (ne_eqb _ _ c.if-x-u.false, c.in-5.is, ne_eqb _ _ c.if-y-t.false)
-
-pub returns-in_default : goal.returns-in_default
-returns-in_default c = rw (ne_eqb _ _ c.if-x-u.false, ne_eqb _ _ c.in_default.rest.1, ne_eqb _ _ c.in_default.rest.0.1)

@@ -9,6 +9,3 @@ returns-in-1 c = rw c.in-1.is (sym (or-false _))
 
 pub returns-in-3 : goal.returns-in-3
 returns-in-3 c = rw c.in-3.is
-
-pub returns-in_default : goal.returns-in_default
-returns-in_default c = rw (ne_eqb _ _ c.in_default.rest.1, ne_eqb _ _ c.in_default.rest.0.1)

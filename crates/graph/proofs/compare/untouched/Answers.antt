@@ -4,6 +4,3 @@ use Rattle.graph.proofs.compare.untouched.Goals as goal
 
 pub returns-in-3 : goal.returns-in-3
 returns-in-3 c = rw c.in-3.is
-
-pub returns-in_default : goal.returns-in_default
-returns-in_default c = rw (ne_eqb _ _ c.in_default.rest.1)

@@ -5,6 +5,3 @@ use Rattle.graph.proofs.tally.left.Goals as goal
 
 pub returns-in-5 : goal.returns-in-5
 returns-in-5 c = ⊎_elim (λ e. rw e) (λ e. rw e) c.in-5.is
-
-pub returns-in_default : goal.returns-in_default
-returns-in_default c = rw (ne_eqb _ 10 (λ e. c.in_default.rest.1 (inr e)), ne_eqb _ 5 (λ e. c.in_default.rest.1 (inl e)))

@@ -18,7 +18,7 @@ returns-then-entry-holder_before c = λ values lives. lock-wrong _ _ _ _ (omega 
 
 pub overflow_add-lock : goal.overflow_add-lock
 overflow_add-lock c =
-    let inside : c.args.lock < 32 = held-within c.args.holders.now _ _ _ _ c.in-5.is (held (goal.at.overflow_add-lock c).Else-entry-holder_before) c.entry-arg-2-1.given.0 in
+    let inside : c.args.lock < 32 = held-within c.args.holders.now _ _ _ _ c.in-5.is (held (goal.at.overflow_add-lock c).Else-entry-holder_before) (omega arith) in
     omega arith
 
 pub returns-in-3 : goal.returns-in-3
