@@ -82,6 +82,7 @@ records-sized (suc n) bs h = (length-take-le 8 bs (omega arith), records-sized n
     rest = omega (arith, h)
 
 ranged : (rs : List (List ℕ)) → Every (λ r. length r ≡ 8) rs → Every InForm rs → (e : Event) → Among e (map event rs) → T (in_range e)
+ranged [] s f e m = elim m [ ]
 ranged (r ∷ rs) s f e m = among-cons m (λ q. subst (λ x. T (in_range x)) (sym q) (decoded-range r (event r) (decoded-good r s.0 f.0))) (λ n. ranged rs s.1 f.1 e n)
 
 -- ---- A recording that isn't refused

@@ -2,10 +2,10 @@
 use Rattle.quelohuite.proofs.in_five.Goals as goal
 
 pub returns-in-Because : goal.returns-in-Because
-returns-in-Because c = rw (c.told-1.given.1, c.name_of.ensures, c.number_of.ensures)
+returns-in-Because c = rw (c.in-Because.is, c.name_of.ensures, c.number_of.ensures)
 
 pub returns-in-NoSuchEdge : goal.returns-in-NoSuchEdge
-returns-in-NoSuchEdge c = rw c.enum_told-1.given.1 c.without_reason.ensures
+returns-in-NoSuchEdge c = rw c.in-NoSuchEdge.is c.without_reason.ensures
 
 pub returns-in-Refused : goal.returns-in-Refused
-returns-in-Refused c = rw c.told-in-Refused-1.given.1 c.without_reason-in-Refused.ensures
+returns-in-Refused c = rw c.in-Refused.is c.without_reason-in-Refused.ensures

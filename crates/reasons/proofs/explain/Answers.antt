@@ -8,10 +8,10 @@ use Rattle.reasons.proofs.explain.Goals as goal
 -- what the violation says, where its numbers are known
 found : (c : In-Violation-2) →
     let a = c.args in
-    Violates a.input.now a.out.now a.work.now (arrays_of c.judge_into-answer.new.threads c.judge_into-answer.new.kinds c.judge_into-answer.new.targets c.judge_into-answer.new.labels) c.judge_into-answer.new.order c.answer-1.given.0.0 c.answer-1.given.0.1.0
+    Violates a.input.now a.out.now a.work.now (arrays_of c.judge_into-answer.new.threads c.judge_into-answer.new.kinds c.judge_into-answer.new.targets c.judge_into-answer.new.labels) c.judge_into-answer.new.order c.in-Violation.record c.in-Violation.length
 found c =
     let a = c.args in
-    violated a.input.now a.out.now a.work.now c.judge_into-answer.result _ _ c.judge_into-answer.ensures.0 _ _ c.answer-1.given.1 _ _ _ _ c.judge_into-answer.ensures.1 c.judge_into-answer.ensures.2
+    violated a.input.now a.out.now a.work.now c.judge_into-answer.result _ _ c.judge_into-answer.ensures.0 _ _ c.in-Violation.is _ _ _ _ c.judge_into-answer.ensures.1 c.judge_into-answer.ensures.2
 
 pub slice_bounds-order-end : goal.slice_bounds-order-end
 slice_bounds-order-end c = (found (goal.at.slice_bounds-order-end c).In-Violation-2).room
@@ -30,7 +30,7 @@ write_lines-requires c =
 pub returns-in-Violation : goal.returns-in-Violation
 returns-in-Violation c =
     let a = c.args in
-    let r = c.answer-1.given.1 in (
+    let r = c.in-Violation.is in (
       judged-as a.input.now a.out.now a.work.now c.judge_into-answer.result _ _ c.judge_into-answer.ensures.0 _ r,
       lines-violation a.input.now a.out.now a.work.now c.judge_into-answer.result _ _ c.judge_into-answer.ensures.0 _ _ r _ _ _ _ c.judge_into-answer.ensures.1 c.judge_into-answer.ensures.2 a.lines.now _ c.write_lines.ensures,
     )
@@ -38,9 +38,9 @@ returns-in-Violation c =
 pub returns-in-Cooperable : goal.returns-in-Cooperable
 returns-in-Cooperable c =
     let a = c.args in
-    (c.judge_into-answer.ensures.0, lines_none a.input.now a.out.now a.work.now c.judge_into-answer.result _ _ c.judge_into-answer.ensures.0 _ c.enum_told-1.given.1 (λ q. omega arith) a.lines.now)
+    (c.judge_into-answer.ensures.0, lines_none a.input.now a.out.now a.work.now c.judge_into-answer.result _ _ c.judge_into-answer.ensures.0 _ c.in-Cooperable.is (λ q. omega arith) a.lines.now)
 
 pub returns-in-Refused : goal.returns-in-Refused
 returns-in-Refused c =
     let a = c.args in
-    (c.judge_into-answer.ensures.0, lines_none a.input.now a.out.now a.work.now c.judge_into-answer.result _ _ c.judge_into-answer.ensures.0 _ c.enum_told-in-Refused-1.given.1 (λ q. omega arith) a.lines.now)
+    (c.judge_into-answer.ensures.0, lines_none a.input.now a.out.now a.work.now c.judge_into-answer.result _ _ c.judge_into-answer.ensures.0 _ c.in-Refused.is (λ q. omega arith) a.lines.now)

@@ -35,12 +35,12 @@ cause_at-requires c =
 pub returns-in-Refused : goal.returns-in-Refused
 returns-in-Refused c =
     let a = c.args in
-    says-refused a.input.now a.out.now a.work.now c.judge_into.result _ _ c.judge_into.ensures.0 a.place c.refusal-1.given.0.0 c.refusal-1.given.1
+    says-refused a.input.now a.out.now a.work.now c.judge_into.result _ _ c.judge_into.ensures.0 a.place c.in-Refused.refusal c.in-Refused.is
 
 pub returns-in-Cooperable : goal.returns-in-Cooperable
 returns-in-Cooperable c =
     let a = c.args in
-    says-cooperable a.input.now a.out.now a.work.now c.judge_into.result _ _ c.judge_into.ensures.0 a.place _ _ c.enum_told-1.given.1
+    says-cooperable a.input.now a.out.now a.work.now c.judge_into.result _ _ c.judge_into.ensures.0 a.place _ _ c.in-Cooperable.is
 
 pub returns-else-length-place : goal.returns-else-length-place
 returns-else-length-place c =

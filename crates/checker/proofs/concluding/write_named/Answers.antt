@@ -11,7 +11,7 @@ slice_bounds-front-end c =
 pub write_serial-requires : goal.write_serial-requires
 write_serial-requires c =
     let a = c.args in
-    ((c.requires.most, omega (arith, c.requires.size), omega (arith, c.requires.size, c.requires.out-room)), (c.requires.label-few, trace-fits a.input.now a.labels.now a.order.now a.named a.prefix a.out.now c.requires c.if-prefix-eq0.true))
+    record { count_bound = (c.requires.most, omega (arith, c.requires.size), omega (arith, c.requires.size, c.requires.out-room)); few = (c.requires.label-few, trace-fits a.input.now a.labels.now a.order.now a.named a.prefix a.out.now c.requires c.if-prefix-eq0.true) }
 
 pub returns-then-prefix-eq0 : goal.returns-then-prefix-eq0
 returns-then-prefix-eq0 c =

@@ -22,7 +22,7 @@ room c =
 
 pub link-requires : goal.link-requires
 link-requires c =
-    ((c.requires.0.0, c.requires.0.1, omega arith, omega (arith, c.requires.0.0)), (c.requires.0.2, none_first 512))
+    record { count_bound = (c.requires.count_bound.0, c.requires.count_bound.1, omega arith, omega (arith, c.requires.count_bound.0)); few = (c.requires.count_bound.2, none_first 512) }
 
 pub loop-k-init : goal.loop-k-init
 loop-k-init c =
@@ -40,9 +40,9 @@ loop-k-preserved c =
     let w = c.append_chain-end.ensures in
     let is : chain _ (length c.loop-k.sequence - c.loop-k.end) c.first_of.result ≡ f a =
     ap (chain _ (length c.loop-k.sequence - c.loop-k.end)) c.first_of.ensures
-    ∙ chain-is c.args.count c.args.labels.now _ _ c.requires.0.0 c.link.ensures a (length c.loop-k.sequence - c.loop-k.end) (omega arith) in (
+    ∙ chain-is c.args.count c.args.labels.now _ _ c.requires.count_bound.0 c.link.ensures a (length c.loop-k.sequence - c.loop-k.end) (omega arith) in (
       omega arith,
-      going_more f c.args.order.now c.args.sequence.now c.loop-k.sequence c.loop-k.end c.loop-k.k _ _ c.requires.1 (omega arith) c.loop-k.invariant.1
+      going_more f c.args.order.now c.args.sequence.now c.loop-k.sequence c.loop-k.end c.loop-k.k _ _ c.requires.order_in_bounds (omega arith) c.loop-k.invariant.1
           (w.1 ∙ ap (written_at c.loop-k.sequence c.loop-k.end) is)
           (w.0 ∙ ap (λ l. c.loop-k.end + length l) is),
     )

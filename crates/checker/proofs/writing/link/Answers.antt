@@ -15,7 +15,7 @@ low c = c.requires.1.0 (c.loop-i.i - 1) (omega arith)
 pub loop-i-init : goal.loop-i-init
 loop-i-init c =
     let a = c.args in
-    (omega arith, refl, refl, linking-start a.count a.labels.now a.firsts.now a.nexts.now c.requires.1.1)
+    (omega arith, refl, refl, linking-start a.count a.labels.now a.firsts.now a.nexts.now c.requires.few.1)
 
 pub overflow_cast-a : goal.overflow_cast-a
 overflow_cast-a c = omega (arith, c.type_inv.labels (c.loop-i.i - 1))

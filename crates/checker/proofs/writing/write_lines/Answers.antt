@@ -34,7 +34,7 @@ room c =
 
 pub link-requires : goal.link-requires
 link-requires c =
-    ((c.requires.0, omega arith, omega arith, omega arith), (c.requires.1, none_first 512))
+    record { count_bound = (c.requires.0, omega arith, omega arith, omega arith); few = (c.requires.1, none_first 512) }
 
 pub loop-k-init : goal.loop-k-init
 loop-k-init c =

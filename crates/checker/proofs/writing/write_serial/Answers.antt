@@ -24,7 +24,7 @@ inside c = omega (arith, c.line_up-n.ensures.0, c.requires.1.1, c.requires.0.0)
 
 pub line_up-n-requires : goal.line_up-n-requires
 line_up-n-requires c =
-    ((c.requires.0.0, omega (arith, c.requires.0.0), c.requires.1.0), omega (arith, c.requires.1.1, c.requires.0.0))
+    record { count_bound = (c.requires.count_bound.0, omega (arith, c.requires.count_bound.0), c.requires.few.0); order_in_bounds = omega (arith, c.requires.few.1, c.requires.count_bound.0) }
 
 pub slice_bounds-sequence-end : goal.slice_bounds-sequence-end
 slice_bounds-sequence-end c = inside (goal.at.slice_bounds-sequence-end c).After-line_up-n
@@ -37,8 +37,8 @@ write_records-requires c =
     let n : ℕ = length c.args.input.now / 8 in
     let numbers : List ℕ = each (numbers_of c.args.count c.args.labels.now) c.args.order.now in
     let front = lined (goal.at.write_records-requires c).After-line_up-n in
-    let low : Numbering n numbers = λ k h. omega (arith, numbers-below c.args.count c.args.labels.now c.args.order.now k h, c.requires.0.1) in
-    (subst (Numbering n) (sym front) low, omega (arith, ap length front, c.requires.1.1, c.requires.0.2))
+    let low : Numbering n numbers = λ k h. omega (arith, numbers-below c.args.count c.args.labels.now c.args.order.now k h, c.requires.count_bound.1) in
+    (subst (Numbering n) (sym front) low, omega (arith, ap length front, c.requires.few.1, c.requires.count_bound.2))
 
 pub returns : goal.returns
 returns c =

@@ -25,9 +25,9 @@ pub loop-i-init : goal.loop-i-init
 loop-i-init c =
     let a = c.args in (
       omega arith,
-      c.requires.1,
+      c.requires.roomy,
       under-start a.input.now c.fresh-state.result (arrays_of a.threads.now a.kinds.now a.targets.now a.labels.now) c.fresh-state.ensures,
-      omega (arith, (sized a.input.now c.requires.0).most),
+      omega (arith, (sized a.input.now c.requires.input_value).most),
     )
 
 pub see-requires : goal.see-requires
@@ -46,16 +46,16 @@ pub bounds-labels-i : goal.bounds-labels-i
 bounds-labels-i c = omega (arith, c.loop-i.invariant.1.labels-size)
 
 pub shape_of-threads-in-Faulty : goal.shape_of-threads-in-Faulty
-shape_of-threads-in-Faulty c = c.loop-i.invariant.1.threads-size ∙ sym c.requires.1.threads-size
+shape_of-threads-in-Faulty c = c.loop-i.invariant.1.threads-size ∙ sym c.requires.roomy.threads-size
 
 pub shape_of-kinds-in-Faulty : goal.shape_of-kinds-in-Faulty
-shape_of-kinds-in-Faulty c = c.loop-i.invariant.1.kinds-size ∙ sym c.requires.1.kinds-size
+shape_of-kinds-in-Faulty c = c.loop-i.invariant.1.kinds-size ∙ sym c.requires.roomy.kinds-size
 
 pub shape_of-targets-in-Faulty : goal.shape_of-targets-in-Faulty
-shape_of-targets-in-Faulty c = c.loop-i.invariant.1.targets-size ∙ sym c.requires.1.targets-size
+shape_of-targets-in-Faulty c = c.loop-i.invariant.1.targets-size ∙ sym c.requires.roomy.targets-size
 
 pub shape_of-labels-in-Faulty : goal.shape_of-labels-in-Faulty
-shape_of-labels-in-Faulty c = c.loop-i.invariant.1.labels-size ∙ sym c.requires.1.labels-size
+shape_of-labels-in-Faulty c = c.loop-i.invariant.1.labels-size ∙ sym c.requires.roomy.labels-size
 
 pub returns-in-Faulty : goal.returns-in-Faulty
 returns-in-Faulty c =
@@ -64,9 +64,8 @@ returns-in-Faulty c =
     let old : Arrays = arrays_of a.threads.now a.kinds.now a.targets.now a.labels.now in
     let run : Run = run_of c.loop-i.values c.loop-i.holders c.loop-i.lives c.loop-i.waits c.loop-i.current c.loop-i.transactions in
     let here : Arrays = arrays_of c.loop-i.threads c.loop-i.kinds c.loop-i.targets c.loop-i.labels in
-    let g = c.number-1.given in
     ap (λ (r : Looked). record { refusal = r.refusal; transactions = r.transactions; arrays = here }) c.found.ensures
-    ∙ looked-stop input c.requires.0 old run here c.loop-i.i c.loop-i.invariant.2 (omega (arith, c.loop-i-test.true)) _ (part-is input c.loop-i.i) _ g.0.0 (subst (Saw run _ _) g.1 c.see.ensures)
+    ∙ looked-stop input c.requires.input_value old run here c.loop-i.i c.loop-i.invariant.2 (omega (arith, c.loop-i-test.true)) _ (part-is input c.loop-i.i) _ c.in-Faulty.number (subst (Saw run _ _) c.in-Faulty.is c.see.ensures)
 
 pub loop-i-preserved : goal.loop-i-preserved
 loop-i-preserved c =
@@ -75,25 +74,25 @@ loop-i-preserved c =
     let old : Arrays = arrays_of a.threads.now a.kinds.now a.targets.now a.labels.now in
     let run : Run = run_of c.loop-i.values c.loop-i.holders c.loop-i.lives c.loop-i.waits c.loop-i.current c.loop-i.transactions in
     let here : Arrays = arrays_of c.loop-i.threads c.loop-i.kinds c.loop-i.targets c.loop-i.labels in
-    let g = c.event-1.given in (
+    (
       omega arith,
       stored-room here c.loop-i.i _ _ _ _ c.loop-i.invariant.1,
-      under_more input old run here c.loop-i.i (omega arith) _ (part-is input c.loop-i.i) _ g.0.0 g.0.1.0 _ _ c.kind_of.ensures c.target_of.ensures (omega (arith, c.loop-i.invariant.3)) c.requires.1 c.loop-i.invariant.2
-          (subst (Saw run _ _) g.1 c.see.ensures),
+      under_more input old run here c.loop-i.i (omega arith) _ (part-is input c.loop-i.i) _ c.in-Sound.event c.in-Sound.transaction _ _ c.kind_of.ensures c.target_of.ensures (omega (arith, c.loop-i.invariant.3)) c.requires.roomy c.loop-i.invariant.2
+          (subst (Saw run _ _) c.in-Sound.is c.see.ensures),
       c.loop-i.invariant.3,
     )
 
 pub shape_of-threads : goal.shape_of-threads
-shape_of-threads c = c.loop-i.invariant.1.threads-size ∙ sym c.requires.1.threads-size
+shape_of-threads c = c.loop-i.invariant.1.threads-size ∙ sym c.requires.roomy.threads-size
 
 pub shape_of-kinds : goal.shape_of-kinds
-shape_of-kinds c = c.loop-i.invariant.1.kinds-size ∙ sym c.requires.1.kinds-size
+shape_of-kinds c = c.loop-i.invariant.1.kinds-size ∙ sym c.requires.roomy.kinds-size
 
 pub shape_of-targets : goal.shape_of-targets
-shape_of-targets c = c.loop-i.invariant.1.targets-size ∙ sym c.requires.1.targets-size
+shape_of-targets c = c.loop-i.invariant.1.targets-size ∙ sym c.requires.roomy.targets-size
 
 pub shape_of-labels : goal.shape_of-labels
-shape_of-labels c = c.loop-i.invariant.1.labels-size ∙ sym c.requires.1.labels-size
+shape_of-labels c = c.loop-i.invariant.1.labels-size ∙ sym c.requires.roomy.labels-size
 
 pub returns : goal.returns
 returns c =
@@ -103,4 +102,4 @@ returns c =
     let run : Run = run_of c.loop-i.values c.loop-i.holders c.loop-i.lives c.loop-i.waits c.loop-i.current c.loop-i.transactions in
     let here : Arrays = arrays_of c.loop-i.threads c.loop-i.kinds c.loop-i.targets c.loop-i.labels in
     ap (λ (r : Looked). record { refusal = r.refusal; transactions = r.transactions; arrays = here }) c.found-2.ensures
-    ∙ looked-end input c.requires.0 old run here c.loop-i.i c.loop-i.invariant.2 (omega arith)
+    ∙ looked-end input c.requires.input_value old run here c.loop-i.i c.loop-i.invariant.2 (omega arith)

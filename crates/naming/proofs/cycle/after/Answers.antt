@@ -11,17 +11,17 @@ use Rattle.naming.proofs.cycle.after.Goals as goal
 pub overflow_cast-i-2 : goal.overflow_cast-i-2
 overflow_cast-i-2 c =
     let all = events_in c.args.threads.now c.args.kinds.now c.args.targets.now in
-    let reached = first-reaches c.args.count all c.args.labels.now c.args.a c.args.links.now c.requires.1 (omega arith) in
+    let reached = first-reaches c.args.count all c.args.labels.now c.args.a c.args.links.now c.requires.linked (omega arith) in
     omega (arith, reached.inside)
 
 pub loop-i-init : goal.loop-i-init
 loop-i-init c =
     let all = events_in c.args.threads.now c.args.kinds.now c.args.targets.now in
-    let reached = first-reaches c.args.count all c.args.labels.now c.args.a c.args.links.now c.requires.1 (omega arith) in
+    let reached = first-reaches c.args.count all c.args.labels.now c.args.a c.args.links.now c.requires.linked (omega arith) in
     (reached.inside, reached.of-a, omega arith, λ work own ranked. reached.same work c.args.t 513)
 
 pub meets-requires : goal.meets-requires
-meets-requires c = ((omega arith, omega arith, omega arith), c.requires.1)
+meets-requires c = record { count_bound = (omega arith, omega arith, omega arith); linked = c.requires.linked }
 
 pub returns-then-meets : goal.returns-then-meets
 returns-then-meets c =
@@ -41,7 +41,7 @@ overflow_cast-i-in-loop-i c =
     let all = events_in c.args.threads.now c.args.kinds.now c.args.targets.now in
     let i = c.loop-i.i in
     let in-i : i < c.args.count = omega arith in
-    let reached = next-reaches c.args.count all c.args.labels.now c.args.a c.args.links.now c.requires.1 (omega arith) i in-i (c.loop-i.invariant.1 in-i) in
+    let reached = next-reaches c.args.count all c.args.labels.now c.args.a c.args.links.now c.requires.linked (omega arith) i in-i (c.loop-i.invariant.1 in-i) in
     omega (arith, reached.inside)
 
 pub loop-i-smaller : goal.loop-i-smaller
@@ -49,7 +49,7 @@ loop-i-smaller c =
     let all = events_in c.args.threads.now c.args.kinds.now c.args.targets.now in
     let i = c.loop-i.i in
     let in-i : i < c.args.count = omega arith in
-    let reached = next-reaches c.args.count all c.args.labels.now c.args.a c.args.links.now c.requires.1 (omega arith) i in-i (c.loop-i.invariant.1 in-i) in
+    let reached = next-reaches c.args.count all c.args.labels.now c.args.a c.args.links.now c.requires.linked (omega arith) i in-i (c.loop-i.invariant.1 in-i) in
     omega (arith, in-i, reached.higher)
 
 pub loop-i-preserved : goal.loop-i-preserved
@@ -57,7 +57,7 @@ loop-i-preserved c =
     let all = events_in c.args.threads.now c.args.kinds.now c.args.targets.now in
     let i = c.loop-i.i in
     let in-i : i < c.args.count = omega arith in
-    let reached = next-reaches c.args.count all c.args.labels.now c.args.a c.args.links.now c.requires.1 (omega arith) i in-i (c.loop-i.invariant.1 in-i) in
+    let reached = next-reaches c.args.count all c.args.labels.now c.args.a c.args.links.now c.requires.linked (omega arith) i in-i (c.loop-i.invariant.1 in-i) in
     let n = c.args.count in
     let ls = c.args.labels.now in
     let t = c.args.t in

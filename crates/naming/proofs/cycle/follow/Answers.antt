@@ -20,7 +20,7 @@ loop-written-init c = (omega arith, omega arith, refl, refl, refl)
 
 pub after-next-requires : goal.after-next-requires
 after-next-requires c =
-    ((omega arith, omega arith, c.loop-written.invariant.1), c.link_records.ensures)
+    record { count_bound = (omega arith, omega arith, c.loop-written.invariant.1); linked = c.link_records.ensures }
 
 pub shape_of-order-then-next-eq0 : goal.shape_of-order-then-next-eq0
 shape_of-order-then-next-eq0 c =

@@ -15,13 +15,13 @@ use Rattle.naming.proofs.cycle.meets.Goals as goal
 pub overflow_cast-j-2 : goal.overflow_cast-j-2
 overflow_cast-j-2 c =
     let all = events_in c.args.threads.now c.args.kinds.now c.args.targets.now in
-    let reached = first-reaches c.args.count all c.args.labels.now c.args.t c.args.links.now c.requires.1 (omega arith) in
+    let reached = first-reaches c.args.count all c.args.labels.now c.args.t c.args.links.now c.requires.linked (omega arith) in
     omega (arith, reached.inside)
 
 pub loop-j-init : goal.loop-j-init
 loop-j-init c =
     let all = events_in c.args.threads.now c.args.kinds.now c.args.targets.now in
-    let reached = first-reaches c.args.count all c.args.labels.now c.args.t c.args.links.now c.requires.1 (omega arith) in (
+    let reached = first-reaches c.args.count all c.args.labels.now c.args.t c.args.links.now c.requires.linked (omega arith) in (
       reached.inside,
       reached.of-a,
       λ k lt h. meets-other c.args.count all c.args.labels.now c.args.t c.args.i k (reached.none k (omega arith) h),
@@ -41,7 +41,7 @@ overflow_cast-j-in-loop-j c =
     let all = events_in c.args.threads.now c.args.kinds.now c.args.targets.now in
     let j = c.loop-j.j in
     let in-j : j < c.args.count = omega arith in
-    let reached = next-reaches c.args.count all c.args.labels.now c.args.t c.args.links.now c.requires.1 (omega arith) j in-j (c.loop-j.invariant.1 in-j) in
+    let reached = next-reaches c.args.count all c.args.labels.now c.args.t c.args.links.now c.requires.linked (omega arith) j in-j (c.loop-j.invariant.1 in-j) in
     omega (arith, reached.inside)
 
 pub loop-j-smaller : goal.loop-j-smaller
@@ -49,7 +49,7 @@ loop-j-smaller c =
     let all = events_in c.args.threads.now c.args.kinds.now c.args.targets.now in
     let j = c.loop-j.j in
     let in-j : j < c.args.count = omega arith in
-    let reached = next-reaches c.args.count all c.args.labels.now c.args.t c.args.links.now c.requires.1 (omega arith) j in-j (c.loop-j.invariant.1 in-j) in
+    let reached = next-reaches c.args.count all c.args.labels.now c.args.t c.args.links.now c.requires.linked (omega arith) j in-j (c.loop-j.invariant.1 in-j) in
     omega (arith, in-j, reached.higher)
 
 pub loop-j-preserved : goal.loop-j-preserved
@@ -57,7 +57,7 @@ loop-j-preserved c =
     let all = events_in c.args.threads.now c.args.kinds.now c.args.targets.now in
     let j = c.loop-j.j in
     let in-j : j < c.args.count = omega arith in
-    let reached = next-reaches c.args.count all c.args.labels.now c.args.t c.args.links.now c.requires.1 (omega arith) j in-j (c.loop-j.invariant.1 in-j) in
+    let reached = next-reaches c.args.count all c.args.labels.now c.args.t c.args.links.now c.requires.linked (omega arith) j in-j (c.loop-j.invariant.1 in-j) in
     let n = c.args.count in
     let ls = c.args.labels.now in
     let t = c.args.t in

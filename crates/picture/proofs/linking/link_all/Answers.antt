@@ -20,7 +20,7 @@ loop-k-init c =
 pub link_record-requires : goal.link_record-requires
 link_record-requires c =
     let few : Few c.args.count c.args.labels.now = c.requires.1 in
-    ((omega arith, λ j h. few j (omega arith)), c.loop-k.invariant.1)
+    record { k_bound = (omega arith, λ j h. few j (omega arith)); links = c.loop-k.invariant.1 }
 
 pub loop-k-preserved : goal.loop-k-preserved
 loop-k-preserved c =

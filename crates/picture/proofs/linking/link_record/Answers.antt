@@ -15,10 +15,10 @@ unfolding held
 loop-i-init c =
     let a = c.args in
     let all : List Event = events_in a.threads.now a.kinds.now a.targets.now in
-    (omega arith, partly_none (held a.k all a.labels.now) (record_at all a.labels.now a.k) a.work.now c.requires.1)
+    (omega arith, partly_none (held a.k all a.labels.now) (record_at all a.labels.now a.k) a.work.now c.requires.links)
 
 pub link-requires : goal.link-requires
-link-requires c = (omega arith, omega arith)
+link-requires c = record { count_bound = omega arith; few = omega arith }
 
 pub loop-i-preserved : goal.loop-i-preserved
 unfolding held
@@ -26,12 +26,12 @@ loop-i-preserved c =
     let a = c.args in
     let all : List Event = events_in a.threads.now a.kinds.now a.targets.now in
     let labels : List ℕ = a.labels.now in
-    let few : Few (suc a.k) labels = c.requires.0.1 in
+    let few : Few (suc a.k) labels = c.requires.k_bound.1 in
     let xs : List Labelled = held a.k all labels in
     let x : Labelled = record_at all labels a.k in (
       omega arith,
       subst (λ (n : ℕ). Partly xs x (held n all labels) a.work.now c.link.new.work) (sym (add-one c.loop-i.i))
-          (partly_more xs x (held c.loop-i.i all labels) a.work.now c.loop-i.work (record_at all labels c.loop-i.i) c.requires.1.long (few c.loop-i.i (omega arith)) (few a.k (omega arith))
+          (partly_more xs x (held c.loop-i.i all labels) a.work.now c.loop-i.work (record_at all labels c.loop-i.i) c.requires.links.long (few c.loop-i.i (omega arith)) (few a.k (omega arith))
           c.loop-i.invariant.1 c.link.new.work c.link.ensures),
     )
 
@@ -48,4 +48,4 @@ returns c =
     let x : Labelled = record_at all labels a.k in
     let e : c.loop-i.i ≡ a.k = omega arith in
     let p : Partly xs x xs a.work.now c.loop-i.work = subst (λ (n : ℕ). Partly xs x (held n all labels) a.work.now c.loop-i.work) e c.loop-i.invariant.1 in
-    (partly-all xs x a.work.now c.loop-i.work c.requires.1.long p, p.rest)
+    (partly-all xs x a.work.now c.loop-i.work c.requires.links.long p, p.rest)

@@ -7,7 +7,7 @@ pub returns-in-Of : goal.returns-in-Of
 returns-in-Of c =
     let k = c.kind_of-kind.ensures in
     let x = c.target_of-target.ensures in
-    put-taken _ _ _ _ _ _ _ _ k x (sym c.number.ensures.0 ∙ c.a-1.given.1) c.number.ensures.1 c.take.ensures.1
+    put-taken _ _ _ _ _ _ _ _ k x (sym c.number.ensures.0 ∙ c.in-Of.is) c.number.ensures.1 c.take.ensures.1
 
 pub returns-in-Full : goal.returns-in-Full
-returns-in-Full c = put_full _ _ _ (sym c.number.ensures.0 ∙ c.enum_told-1.given.1) c.number.ensures.1
+returns-in-Full c = put_full _ _ _ (sym c.number.ensures.0 ∙ c.in-Full.is) c.number.ensures.1

@@ -9,9 +9,8 @@ use Rattle.text.proofs.whole.line_size.Goals as goal
 
 pub returns-in-Good : goal.returns-in-Good
 returns-in-Good c =
-    let e = c.e-1.given in
-    (c.line_of-line.ensures.size ∙ sym (ap length (part-good line_of (decoded c.args.bytes.now) e.0.0 (sym c.decode.ensures ∙ e.1))), c.line_of-line.ensures.within)
+    (c.line_of-line.ensures.size ∙ sym (ap length (part-good line_of (decoded c.args.bytes.now) c.in-Good.e (sym c.decode.ensures ∙ c.in-Good.is))), c.line_of-line.ensures.within)
 
 pub returns-in-Refused : goal.returns-in-Refused
 returns-in-Refused c =
-    (sym (ap length (part_none line_of (decoded c.args.bytes.now) _ (sym c.decode.ensures ∙ c.enum_told-1.given.1))), omega arith)
+    (sym (ap length (part_none line_of (decoded c.args.bytes.now) _ (sym c.decode.ensures ∙ c.in-Refused.is))), omega arith)

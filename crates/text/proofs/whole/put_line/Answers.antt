@@ -10,12 +10,11 @@ use Rattle.text.proofs.whole.put_line.Goals as goal
 pub returns-in-Good : goal.returns-in-Good
 returns-in-Good c =
     let a = c.args in
-    let e = c.e-1.given in
-    let d = sym c.decode.ensures ∙ e.1 in
-    let w = line-fits e.0.0 a.out.now (omega (arith, c.requires, ap length (part-good line_of (decoded a.bytes.now) e.0.0 d))) in
-    part-fits line_of (decoded a.bytes.now) e.0.0 c.write_line.result a.out.now _ d (c.write_line.ensures.0 ∙ w.0) (c.write_line.ensures.1 ∙ w.1)
+    let d = sym c.decode.ensures ∙ c.in-Good.is in
+    let w = line-fits c.in-Good.e a.out.now (omega (arith, c.requires, ap length (part-good line_of (decoded a.bytes.now) c.in-Good.e d))) in
+    part-fits line_of (decoded a.bytes.now) c.in-Good.e c.write_line.result a.out.now _ d (c.write_line.ensures.0 ∙ w.0) (c.write_line.ensures.1 ∙ w.1)
 
 pub returns-in-Refused : goal.returns-in-Refused
 returns-in-Refused c =
     let a = c.args in
-    part-empty line_of (decoded a.bytes.now) _ a.out.now (sym c.decode.ensures ∙ c.enum_told-1.given.1)
+    part-empty line_of (decoded a.bytes.now) _ a.out.now (sym c.decode.ensures ∙ c.in-Refused.is)

@@ -23,7 +23,7 @@ put_line-n-requires c =
     let rest' : List ℕ = all_bytes line_of decoded (records_of (drop (c.loop-at.at + 8) input)) in
     let more = bytes_on line_of decoded one (records_of (drop (c.loop-at.at + 8) input)) (records_of (drop c.loop-at.at input)) (records-at input c.loop-at.at fits) in
     let b : List ℕ = part_bytes line_of (decoded one) in
-    let room = c.requires.1 in
+    let room = c.requires.input_in_bounds in
     omega (arith, c.loop-at.invariant.2.sizes, c.loop-at.invariant.2.same_size, room, ap length more, length-append b rest', length-drop c.loop-at.n c.loop-at.out, ap length (rest-whole c.loop-at.out c.loop-at.n))
 
 pub overflow_add-n : goal.overflow_add-n
@@ -34,7 +34,7 @@ overflow_add-n c =
     let rest' : List ℕ = all_bytes line_of decoded (records_of (drop (c.loop-at.at + 8) input)) in
     let more = bytes_on line_of decoded one (records_of (drop (c.loop-at.at + 8) input)) (records_of (drop c.loop-at.at input)) (records-at input c.loop-at.at fits) in
     let b : List ℕ = part_bytes line_of (decoded one) in
-    let room = c.requires.1 in
+    let room = c.requires.input_in_bounds in
     omega (arith, c.loop-at.invariant.2.sizes, room, c.put_line-n.ensures.0, ap length more, length-append b rest')
 
 pub loop-at-preserved : goal.loop-at-preserved
@@ -45,7 +45,7 @@ loop-at-preserved c =
     let rest' : List ℕ = all_bytes line_of decoded (records_of (drop (c.loop-at.at + 8) input)) in
     let more = bytes_on line_of decoded one (records_of (drop (c.loop-at.at + 8) input)) (records_of (drop c.loop-at.at input)) (records-at input c.loop-at.at fits) in
     let b : List ℕ = part_bytes line_of (decoded one) in
-    let room = c.requires.1 in
+    let room = c.requires.input_in_bounds in
     let old : List ℕ = c.args.out.now in
     let total : List ℕ = all_bytes line_of decoded (records_of input) in
     let rest : List ℕ = all_bytes line_of decoded (records_of (drop c.loop-at.at input)) in

@@ -9,12 +9,11 @@ use Rattle.text.proofs.whole.put_record.Goals as goal
 pub returns-in-Good : goal.returns-in-Good
 returns-in-Good c =
     let a = c.args in
-    let e = c.e-1.given in
-    let d = sym c.read_line.ensures ∙ e.1 in
-    let w = record-fits e.0.0 a.out.now (record-room (line_read a.line.now) e.0.0 (length a.out.now) d c.requires) in
-    part-fits encoded (line_read a.line.now) e.0.0 c.encode.result a.out.now _ d (c.encode.ensures.0 ∙ w.0) (c.encode.ensures.1 ∙ w.1)
+    let d = sym c.read_line.ensures ∙ c.in-Good.is in
+    let w = record-fits c.in-Good.e a.out.now (record-room (line_read a.line.now) c.in-Good.e (length a.out.now) d c.requires) in
+    part-fits encoded (line_read a.line.now) c.in-Good.e c.encode.result a.out.now _ d (c.encode.ensures.0 ∙ w.0) (c.encode.ensures.1 ∙ w.1)
 
 pub returns-in-Refused : goal.returns-in-Refused
 returns-in-Refused c =
     let a = c.args in
-    part-empty encoded (line_read a.line.now) _ a.out.now (sym c.read_line.ensures ∙ c.enum_told-1.given.1)
+    part-empty encoded (line_read a.line.now) _ a.out.now (sym c.read_line.ensures ∙ c.in-Refused.is)
