@@ -8,6 +8,7 @@ use lib.ListN.{length}
 use Rattle.rows.specs.Bits.{joined}
 use Rattle.ancestors.specs.Sources.{spread_to}
 use Rattle.ancestors.proofs.Joining.{spread-next}
+use Rattle.ancestors.proofs.spread.Goals.{then-test, else-test}
 use Rattle.ancestors.proofs.spread.Goals as goal
 
 pub loop-d-init : goal.loop-d-init
@@ -19,12 +20,12 @@ loop-d-preserved c =
     let a = c.args in
     (
       omega arith,
-      ⊎_elim (λ w. ap length w.5 ∙ w.2.kept.0 ∙ c.loop-d.invariant.1) (λ w. ap length w.1 ∙ c.loop-d.invariant.1) c.if-test.branch,
+      c.if-test.auto.work ∙ c.loop-d.invariant.1,
       spread-next a.work.now c.loop-d.work c.if-test.work c.loop-d.d a.a c.loop-d.invariant.2
-          (⊎_elim
-          (λ w. w.5 ∙ w.2.ensures ∙ sym (ap (λ (b : Bool). cond b (joined c.loop-d.work c.loop-d.d a.a) c.loop-d.work) (sym c.test.ensures ∙ w.0.taken)))
-          (λ w. w.1 ∙ sym (ap (λ (b : Bool). cond b (joined c.loop-d.work c.loop-d.d a.a) c.loop-d.work) (sym c.test.ensures ∙ w.0.left)))
-          c.if-test.branch),
+          (elim c.if-test.branch [
+            then-test w ↦ w.work-is ∙ w.join.ensures ∙ sym (ap (λ (b : Bool). cond b (joined c.loop-d.work c.loop-d.d a.a) c.loop-d.work) (sym c.test.ensures ∙ w.if-test.true))
+          | else-test w ↦ w.work-is ∙ sym (ap (λ (b : Bool). cond b (joined c.loop-d.work c.loop-d.d a.a) c.loop-d.work) (sym c.test.ensures ∙ w.if-test.false))
+          ]),
     )
 
 pub shape_of-work : goal.shape_of-work
