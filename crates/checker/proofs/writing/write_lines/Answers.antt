@@ -13,6 +13,7 @@ use Rattle.checker.specs.Writing.{no_record, first_from, line_of}
 use Rattle.checker.proofs.Written.{going_start, going-room, going_more, going_end, length-each, length-line, line-stored}
 use Rattle.checker.proofs.Linking.{none_first}
 use Rattle.checker.proofs.writing.write_lines.Goals.{In-loop-k}
+use Rattle.checker.proofs.writing.write_lines.Goals.{else-i-lt1024, then-i-lt1024}
 use Rattle.checker.proofs.writing.write_lines.Goals as goal
 
 -- all the lines fit
@@ -58,12 +59,9 @@ loop-k-preserved c =
     let a : ℕ = get_or c.args.order.now c.loop-k.k 0 in
     let is : c.first_of-i.result ≡ first_from n labels a 0 = c.first_of-i.ensures ∙ c.link.ensures.first-is a in
     let told : (c.if-i-lt1024.thread ≡ cond (ltb c.first_of-i.result no_record) (get_or threads c.first_of-i.result 0) 0) × (c.if-i-lt1024.first ≡ cond (ltb c.first_of-i.result no_record) c.first_of-i.result 0) =
-    ⊎_elim
-    (λ w. let low = lt-ltb c.first_of-i.result no_record w.0.taken in
-    (w.3 ∙ w.2.ensures ∙ sym (ap (λ t. cond t (get_or threads c.first_of-i.result 0) 0) low), w.4 ∙ sym (ap (λ t. cond t c.first_of-i.result 0) low)))
-    (λ w. let high = le-ltb c.first_of-i.result no_record w.0.left in
-    (w.1 ∙ sym (ap (λ t. cond t (get_or threads c.first_of-i.result 0) 0) high), w.2 ∙ sym (ap (λ t. cond t c.first_of-i.result 0) high)))
-    c.if-i-lt1024.branch in
+    elim c.if-i-lt1024.branch [ then-i-lt1024 w ↦ let low = lt-ltb c.first_of-i.result no_record w.if-i-lt1024.true in
+    (w.3 ∙ w.2.ensures ∙ sym (ap (λ t. cond t (get_or threads c.first_of-i.result 0) 0) low), w.4 ∙ sym (ap (λ t. cond t c.first_of-i.result 0) low)) | else-i-lt1024 w ↦ let high = le-ltb c.first_of-i.result no_record w.if-i-lt1024.false in
+    (w.1 ∙ sym (ap (λ t. cond t (get_or threads c.first_of-i.result 0) 0) high), w.2 ∙ sym (ap (λ t. cond t c.first_of-i.result 0) high)) ] in
     let size : length (line_of n threads labels a) ≡ 3 = length-line n threads labels a in (
       omega arith,
       going_more (line_of n threads labels) c.args.order.now c.args.lines.now c.loop-k.lines (3 * c.loop-k.k) c.loop-k.k _ (3 * (c.loop-k.k + 1))

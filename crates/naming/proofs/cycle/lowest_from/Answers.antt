@@ -10,6 +10,7 @@ use Rattle.lists.proofs.Tests.{by-same, T_of}
 use lib.ListN.{get_or}
 use Rattle.graph.specs.Held.{events_in}
 use Rattle.naming.proofs.Lowest.{lowest_after, ranked-lower, ranked-higher, passed_none, passed-made, passed-same, passed-all, passed-rest, unmet}
+use Rattle.naming.proofs.cycle.lowest_from.Goals.{then-r-lowest+then-makes_edge, else-r-lowest, else-r-lowest-via-then-r-lowest+else-makes_edge, else-r-lowest-via-else-r-lowest}
 use Rattle.naming.proofs.cycle.lowest_from.Goals as goal
 
 pub loop-j-init : goal.loop-j-init
@@ -35,22 +36,25 @@ loop-j-preserved c =
     let in-j : j < n = omega arith in (
       omega arith,
       omega arith,
-      ⊎_elim (λ w. omega (arith, w.0.taken, w.3, c.loop-j.invariant.2)) (λ w. omega (arith, w.1, c.loop-j.invariant.2)) c.if-r-lowest.branch,
+      elim c.if-r-lowest.branch [
+        then-r-lowest+then-makes_edge w ↦ omega (arith, w.if-r-lowest.true, w.lowest-is, c.loop-j.invariant.2)
+      | else-r-lowest w ↦ omega (arith, w.lowest-is, c.loop-j.invariant.2)
+      ],
       λ work t most ranked none.
           let below : low ≤ 513 = omega (arith, most, c.loop-j.invariant.2) in
           let own = ranked.own j (omega arith) in-j in
-          ⊎_elim
-          (λ w. ap (lowest_after n all ls work t i (j + 1)) w.3
-          ∙ passed-made n all ls work t i j low in-j (get_or c.args.ranks.now j 0)
-          (ranked-lower work t (get_or ls j 0) low below (subst (λ r. r < low) own w.0.taken) ∙ sym own) (sym w.1.ensures ∙ w.2.taken))
-          (λ w. ap (lowest_after n all ls work t i (j + 1)) w.1
-          ∙ ⊎_elim
-          (λ v. passed_none n all ls work t i j low in-j (sym v.1.ensures ∙ v.2.left))
-          (λ v. by-same (get_or ls j 0) t
-          (λ of-t. passed_none n all ls work t i j low in-j (unmet n all ls t i j none (omega arith) in-j of-t))
-          (λ d. passed-same n all ls work t i j low in-j (ranked-higher work t (get_or ls j 0) low below d (subst (λ r. low ≤ r) own v.left))))
-          w.0.came)
-          c.if-r-lowest.branch
+          elim c.if-r-lowest.branch [
+            then-r-lowest+then-makes_edge w ↦ ap (lowest_after n all ls work t i (j + 1)) w.lowest-is
+              ∙ passed-made n all ls work t i j low in-j (get_or c.args.ranks.now j 0)
+              (ranked-lower work t (get_or ls j 0) low below (subst (λ r. r < low) own w.if-r-lowest.true) ∙ sym own) (sym w.makes_edge.ensures ∙ w.if-makes_edge.true)
+          | else-r-lowest w ↦ ap (lowest_after n all ls work t i (j + 1)) w.lowest-is
+              ∙ elim w.else-r-lowest.branch [
+                  else-r-lowest-via-then-r-lowest+else-makes_edge v ↦ passed_none n all ls work t i j low in-j (sym v.makes_edge.ensures ∙ v.if-makes_edge.false)
+                | else-r-lowest-via-else-r-lowest v ↦ by-same (get_or ls j 0) t
+                    (λ of-t. passed_none n all ls work t i j low in-j (unmet n all ls t i j none (omega arith) in-j of-t))
+                    (λ d. passed-same n all ls work t i j low in-j (ranked-higher work t (get_or ls j 0) low below d (subst (λ r. low ≤ r) own v.if-r-lowest.false)))
+                ]
+          ]
           ∙ c.loop-j.invariant.3 work t most ranked none,
     )
 
@@ -65,7 +69,7 @@ returns-else-ranks-j c =
       c.loop-j.invariant.2,
       λ work t most ranked none.
           let below : low ≤ 513 = omega (arith, most, c.loop-j.invariant.2) in
-          let passed : low ≤ get_or c.args.ranks.now (1024 + j) 0 = nltb→le (get_or c.args.ranks.now (1024 + j) 0) low (T_of (ap not c.if-ranks-j.false)) in
+          let passed : low ≤ get_or c.args.ranks.now (1024 + j) 0 = c.if-ranks-j.false in
           sym (passed-rest n all ls work t (n - j) i j low (omega arith)
           (λ k le lt. by-same (get_or ls k 0) t
           (λ of-t. inr (unmet n all ls t i k none (omega arith) lt of-t))

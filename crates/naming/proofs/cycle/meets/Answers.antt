@@ -10,6 +10,7 @@ use Rattle.lists.proofs.Tests.{by, by-same, T_of}
 use Rattle.graph.specs.Held.{events_in}
 use Rattle.naming.proofs.Lowest.{meets_at, meets-other, meets-yes, meets-no}
 use Rattle.naming.proofs.Links.{first-reaches, next-reaches}
+use Rattle.naming.proofs.cycle.meets.Goals.{else-i-j-via-then-i-j+else-makes_edge, else-i-j-via-else-i-j}
 use Rattle.naming.proofs.cycle.meets.Goals as goal
 
 pub overflow_cast-j-2 : goal.overflow_cast-j-2
@@ -65,10 +66,10 @@ loop-j-preserved c =
       reached.inside,
       reached.of-a,
       λ k lt h. by-same k j
-          (λ e. ⊎_elim
-          (λ w. subst (λ l. meets_at n all ls t i l ≡ false) (sym e) (ap (λ p. eqb (get_or ls j 0) t && p) (sym w.1.ensures ∙ w.2.left) ∙ and-false (eqb (get_or ls j 0) t)))
-          (λ w. absurd (omega (arith, lt, w.left, e)))
-          c.else-i-j.branch)
+          (λ e. elim c.else-i-j.branch [
+            else-i-j-via-then-i-j+else-makes_edge w ↦ subst (λ l. meets_at n all ls t i l ≡ false) (sym e) (ap (λ p. eqb (get_or ls j 0) t && p) (sym w.makes_edge.ensures ∙ w.if-makes_edge.false) ∙ and-false (eqb (get_or ls j 0) t))
+          | else-i-j-via-else-i-j w ↦ absurd (omega (arith, lt, w.if-i-j.false, e))
+          ])
           (λ d. by (ltb k j)
           (λ q. c.loop-j.invariant.2 k lt (ltb→lt k j (T_of q)))
           (λ q. meets-other n all ls t i k (reached.none k (after k d (nltb→le k j (T_of (ap not q)))) h))),

@@ -7,6 +7,7 @@ use lib.ListN.{get_or, set, length-set}
 use Rattle.lists.proofs.Tests.{by-same}
 use Rattle.naming.specs.Naming.{rank_by, Ranked}
 use Rattle.naming.proofs.Links.{ranked-none, ranked-more}
+use Rattle.naming.proofs.cycle.rank_records.Goals.{else-r-low, then-r-low}
 use Rattle.naming.proofs.cycle.rank_records.Goals as goal
 
 pub loop-i-init : goal.loop-i-init
@@ -28,7 +29,7 @@ loop-i-preserved c =
     let r = c.rank-r.result in
     let low = c.if-r-low.low in
     let next : c.loop-i.i ≡ suc i = omega arith in
-    let both : (low ≤ r) × (low ≤ c.loop-i.low) = ⊎_elim (λ w. (omega (arith, w.1), omega (arith, w.0.taken, w.1))) (λ w. (omega (arith, w.0.left, w.1), omega (arith, w.1))) c.if-r-low.branch in
+    let both : (low ≤ r) × (low ≤ c.loop-i.low) = elim c.if-r-low.branch [ then-r-low w ↦ (omega (arith, w.low-is), omega (arith, w.if-r-low.true, w.low-is)) | else-r-low w ↦ (omega (arith, w.if-r-low.false, w.low-is), omega (arith, w.low-is)) ] in
     let lowest : (j : ℕ) → i ≤ j → j < n → low ≤ rank_by rows t (get_or ls j 0) = λ j le lt. by-same j i
     (λ e. subst (λ k. low ≤ rank_by rows t (get_or ls k 0)) (sym e) (omega (arith, both.0, c.rank-r.ensures)))
     (λ d. omega (arith, both.1, c.loop-i.invariant.3 j (omega arith) lt)) in (

@@ -6,6 +6,7 @@ use mathlib.Core.Logic.{⊎_elim}
 use lib.ListN.{get_or}
 use Rattle.naming.specs.Naming as Naming
 use Rattle.naming.proofs.Picked.{above_same, above_more}
+use Rattle.naming.proofs.order.above_threads.Goals.{else-above-t, then-above-t}
 use Rattle.naming.proofs.order.above_threads.Goals as goal
 
 pub loop-a-init : goal.loop-a-init
@@ -24,10 +25,7 @@ loop-a-preserved c =
     let a = c.loop-a.a in
     let thread : ℕ → ℕ = λ b. get_or threads b 0 in
     let small : get_or threads a 0 < 256 = omega (arith, c.type_inv.threads a) in
-    let more : (c.if-above-t.above ≤ 256) × (c.if-above-t.above ≡ Naming.above thread (a + 1)) = ⊎_elim
-    (λ w. (omega (arith, w.1), w.1 ∙ sym (above_more thread a (omega (arith, c.loop-a.invariant.2, w.0.taken)))))
-    (λ w. (omega (arith, w.1, c.loop-a.invariant.1), w.1 ∙ c.loop-a.invariant.2 ∙ sym (above_same thread a (omega (arith, c.loop-a.invariant.2, w.0.left)))))
-    c.if-above-t.branch in
+    let more : (c.if-above-t.above ≤ 256) × (c.if-above-t.above ≡ Naming.above thread (a + 1)) = elim c.if-above-t.branch [ then-above-t w ↦ (omega (arith, w.above-is), w.above-is ∙ sym (above_more thread a (omega (arith, c.loop-a.invariant.2, w.if-above-t.true)))) | else-above-t w ↦ (omega (arith, w.above-is, c.loop-a.invariant.1), w.above-is ∙ c.loop-a.invariant.2 ∙ sym (above_same thread a (omega (arith, c.loop-a.invariant.2, w.if-above-t.false)))) ] in
     (omega arith, more.0, more.1)
 
 pub returns : goal.returns

@@ -8,6 +8,7 @@ use mir.Val.{bool_byte}
 use lib.ListN.{get_or, length-set}
 use Rattle.rows.specs.Bits.{has}
 use Rattle.naming.proofs.Picked.{rewritten-more}
+use Rattle.naming.proofs.order.lower.Goals.{else-left-one, then-left-one}
 use Rattle.naming.proofs.order.lower.Goals as goal
 
 -- a test as a number
@@ -27,10 +28,7 @@ loop-t-preserved c =
     let f : ℕ → ℕ = λ u. get_or old u 0 - less u in
     let stood : get_or lefts t 0 ≡ get_or old t 0 = c.loop-t.invariant.2.1 t (omega arith) in
     let one : less t ≡ bool_byte c.test-one.result = ap (λ b. cond b 1 0) (sym c.test-one.ensures) ∙ number_is c.test-one.result in
-    let lowered : c.if-left-one.lefts ≡ f t = ⊎_elim
-    (λ w. let short : get_or lefts t 0 < bool_byte c.test-one.result = w.0.taken in omega (arith, w.1, one, stood, short))
-    (λ w. let rest : c.if-left-one.lefts ≡ get_or lefts t 0 - bool_byte c.test-one.result = w.1 in omega (arith, rest, one, stood))
-    c.if-left-one.branch in (
+    let lowered : c.if-left-one.lefts ≡ f t = elim c.if-left-one.branch [ then-left-one w ↦ let short : get_or lefts t 0 < bool_byte c.test-one.result = w.if-left-one.true in omega (arith, w.lefts-is, one, stood, short) | else-left-one w ↦ let rest : c.if-left-one.lefts ≡ get_or lefts t 0 - bool_byte c.test-one.result = w.lefts-is in omega (arith, rest, one, stood) ] in (
       omega arith,
       length-set lefts t c.if-left-one.lefts ∙ c.loop-t.invariant.1,
       rewritten-more f old lefts t c.loop-t.invariant.2 c.if-left-one.lefts (omega (arith, c.loop-t.invariant.1)) lowered,

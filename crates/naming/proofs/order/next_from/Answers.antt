@@ -12,6 +12,7 @@ use Rattle.lists.specs.Lists.{first_of, from}
 use Rattle.lists.proofs.Lists.{from_step, from-none, first-true, first-false}
 use Rattle.naming.specs.Naming.{next_from}
 use Rattle.naming.proofs.Picked.{waits}
+use Rattle.naming.proofs.order.next_from.Goals.{else-threads-b-via-then-threads-b+else-not-test, else-threads-b-via-else-threads-b}
 use Rattle.naming.proofs.order.next_from.Goals as goal
 
 pub loop-b-init : goal.loop-b-init
@@ -29,7 +30,7 @@ returns-then-not-test c =
     let t = c.args.t in
     let b = c.loop-b.b in
     let found : waits thread n taken t b ≡ true =
-    ap₂ (λ x y. x && y) (eq-eqb (thread b) t c.if-threads-b.true) (ap not (sym c.test.ensures) ∙ c.if-not-test.true) in
+    ap₂ (λ x y. x && y) (eq-eqb (thread b) t c.if-threads-b.true) (ap not (sym c.test.ensures ∙ c.if-not-test.true)) in
     sym (c.loop-b.invariant ∙ ap (first_of (waits thread n taken t) n) (from_step b n (omega arith)) ∙ first-true (waits thread n taken t) n b (from (b + 1) (n - (b + 1))) found)
 
 pub loop-b-preserved : goal.loop-b-preserved
@@ -39,10 +40,10 @@ loop-b-preserved c =
     let n = c.args.n in
     let t = c.args.t in
     let b = c.loop-b.b in
-    let passed : waits thread n taken t b ≡ false = ⊎_elim
-    (λ w. ap (λ y. eqb (thread b) t && y) (ap not (sym w.2.ensures) ∙ w.3.left) ∙ and-false (eqb (thread b) t))
-    (λ w. ap (λ x. x && not (has taken 0 b)) (ne_eqb (thread b) t w.left))
-    c.else-threads-b.branch in
+    let passed : waits thread n taken t b ≡ false = elim c.else-threads-b.branch [
+      else-threads-b-via-then-threads-b+else-not-test w ↦ ap (λ y. eqb (thread b) t && y) (ap not (sym w.test.ensures ∙ w.if-not-test.false)) ∙ and-false (eqb (thread b) t)
+    | else-threads-b-via-else-threads-b w ↦ ap (λ x. x && not (has taken 0 b)) (ne_eqb (thread b) t w.if-threads-b.false)
+    ] in
     c.loop-b.invariant ∙ ap (first_of (waits thread n taken t) n) (from_step b n (omega arith)) ∙ first-false (waits thread n taken t) n b (from (b + 1) (n - (b + 1))) passed
 
 pub returns : goal.returns

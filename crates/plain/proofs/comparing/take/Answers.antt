@@ -13,6 +13,7 @@ use Rattle.ancestors.specs.Sources.{spread_to}
 use Rattle.ancestors.proofs.Joining.{joins-meeting, joins-closed}
 use Rattle.ancestors.proofs.Searching.{closes-under, closes-over, rows_under, rows-over}
 use Rattle.plain.specs.Plain.{sources, few}
+use Rattle.plain.proofs.comparing.take.Goals.{else-code-ne0, then-code-ne0}
 use Rattle.plain.proofs.comparing.take.Goals as goal
 
 pub returns-then-a-ge512 : goal.returns-then-a-ge512
@@ -25,7 +26,7 @@ returns-then-a-ge512 c =
 
 pub shape_of-work : goal.shape_of-work
 shape_of-work c =
-    ⊎_elim (λ w. ap length w.5 ∙ w.2.kept.0 ∙ c.join_earlier-code.auto.work) (λ w. ap length w.1 ∙ c.join_earlier-code.auto.work) c.if-code-ne0.branch
+    elim c.if-code-ne0.branch [ then-code-ne0 w ↦ ap length w.work-is ∙ w.spread.auto.work ∙ c.join_earlier-code.auto.work | else-code-ne0 w ↦ ap length w.work-is ∙ c.join_earlier-code.auto.work ]
 
 pub returns : goal.returns
 returns c =
@@ -39,9 +40,6 @@ returns c =
     let v : List ℕ = c.join_earlier-code.new.work in (
       joins-meeting a.work.now t (sources ys x) r v c.join_earlier-code.ensures ∙ sym (closes-under sources ys a.work.now a.n x in-t),
       joins-closed a.work.now t (sources ys x) r v c.join_earlier-code.ensures a.n c.if-code-ne0.work
-          (⊎_elim
-          (λ w. w.5 ∙ w.2.ensures ∙ sym (ap (λ (b : Bool). cond (not b) (spread_to a.n v t) v) (ne_eqb r 0 w.0.taken)))
-          (λ w. w.1 ∙ sym (ap (λ (b : Bool). cond (not b) (spread_to a.n v t) v) (eq-eqb r 0 w.0.left)))
-          c.if-code-ne0.branch)
+          (elim c.if-code-ne0.branch [ then-code-ne0 w ↦ w.work-is ∙ w.spread.ensures ∙ sym (ap (λ (b : Bool). cond (not b) (spread_to a.n v t) v) (ne_eqb r 0 w.if-code-ne0.true)) | else-code-ne0 w ↦ w.work-is ∙ sym (ap (λ (b : Bool). cond (not b) (spread_to a.n v t) v) (eq-eqb r 0 w.if-code-ne0.false)) ])
           ∙ sym (rows_under sources ys a.work.now a.n x in-t),
     )

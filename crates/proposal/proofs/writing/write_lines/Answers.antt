@@ -14,6 +14,7 @@ use Rattle.looking.proofs.Scanned.{events-size}
 use Rattle.proposal.specs.Proposed.{yields_in, lines_from}
 use Rattle.proposal.specs.Weaving.{woven}
 use Rattle.proposal.proofs.Weaving.{Told, told_none, told-unmarked, told-marked}
+use Rattle.proposal.proofs.writing.write_lines.Goals.{else-marks-i-ne0, then-marks-i-ne0}
 use Rattle.proposal.proofs.writing.write_lines.Goals as goal
 
 pub loop-i-init : goal.loop-i-init
@@ -57,17 +58,12 @@ loop-i-preserved c =
     let a = c.args in
     let es : List Event = events a.input.now in
     let next : Told es a.marks.now a.lines.now c.if-marks-i-ne0.lines c.if-marks-i-ne0.yields (suc c.loop-i.i) =
-    ⊎_elim
-    (λ w.
-    let room : 2 * c.loop-i.yields + 2 ≤ length c.loop-i.lines = omega (arith, c.loop-i.invariant.1.size, c.loop-i.invariant.1.most, c.loop-i-test.true, c.requires) in
+    elim c.if-marks-i-ne0.branch [ then-marks-i-ne0 w ↦     let room : 2 * c.loop-i.yields + 2 ≤ length c.loop-i.lines = omega (arith, c.loop-i.invariant.1.size, c.loop-i.invariant.1.most, c.loop-i-test.true, c.requires) in
     subst (λ k. Told es a.marks.now a.lines.now c.if-marks-i-ne0.lines k (suc c.loop-i.i)) (sym (w.4 ∙ add-one c.loop-i.yields))
-    (told-marked es a.marks.now a.lines.now c.loop-i.lines c.loop-i.yields c.loop-i.i c.loop-i.invariant.1 c.if-marks-i-ne0.lines w.0.taken room
+    (told-marked es a.marks.now a.lines.now c.loop-i.lines c.loop-i.yields c.loop-i.i c.loop-i.invariant.1 c.if-marks-i-ne0.lines w.if-marks-i-ne0.true room
     (w.3 ∙ written-two c.loop-i.lines (2 * c.loop-i.yields) w.1.result.thread c.loop-i.i room
-    ∙ ap (λ x. written_at c.loop-i.lines (2 * c.loop-i.yields) (x.thread ∷ c.loop-i.i ∷ [])) w.1.ensures)))
-    (λ w.
-    subst₂ (λ (l : List ℕ) (k : ℕ). Told es a.marks.now a.lines.now l k (suc c.loop-i.i)) (sym w.1) (sym w.2)
-    (told-unmarked es a.marks.now a.lines.now c.loop-i.lines c.loop-i.yields c.loop-i.i c.loop-i.invariant.1 w.0.left))
-    c.if-marks-i-ne0.branch in
+    ∙ ap (λ x. written_at c.loop-i.lines (2 * c.loop-i.yields) (x.thread ∷ c.loop-i.i ∷ [])) w.1.ensures)) | else-marks-i-ne0 w ↦     subst₂ (λ (l : List ℕ) (k : ℕ). Told es a.marks.now a.lines.now l k (suc c.loop-i.i)) (sym w.1) (sym w.2)
+    (told-unmarked es a.marks.now a.lines.now c.loop-i.lines c.loop-i.yields c.loop-i.i c.loop-i.invariant.1 w.if-marks-i-ne0.false) ] in
     (omega arith, subst (Told es a.marks.now a.lines.now c.if-marks-i-ne0.lines c.if-marks-i-ne0.yields) (sym (add-one c.loop-i.i)) next)
 
 pub shape_of-lines : goal.shape_of-lines

@@ -9,6 +9,7 @@ use Rattle.ancestors.specs.Sources.{Joins}
 use Rattle.ancestors.proofs.Joining.{other-some}
 use Rattle.second.specs.Taken.{readers_in}
 use Rattle.second.proofs.ByKind.{readers-none, readers-join, readers-skip}
+use Rattle.second.proofs.gather.join_readers.Goals.{else-is_other, then-is_other}
 use Rattle.second.proofs.gather.join_readers.Goals as goal
 
 pub loop-t-init : goal.loop-t-init
@@ -22,12 +23,9 @@ loop-t-preserved c =
     let a = c.args in
     let other = c.is_other.ensures in (
       omega arith,
-      ⊎_elim (λ w. ap length w.6 ∙ w.2.kept.0 ∙ c.loop-t.invariant.1) (λ w. ap length w.1 ∙ c.loop-t.invariant.1) c.if-is_other.branch,
-      ⊎_elim
-          (λ w. readers-join a.work.now a.a a.readers.now a.x c.loop-t.t c.loop-t.code c.loop-t.work c.loop-t.invariant.2 c.if-is_other.work w.2.result c.if-is_other.code (sym other ∙ w.0.taken)
-          (subst (λ l. Joins c.loop-t.work a.a _ w.2.result l) (sym w.6) w.2.ensures) (w.7 ∙ w.5.ensures))
-          (λ w. readers-skip a.work.now a.a a.readers.now a.x c.loop-t.t c.loop-t.code c.loop-t.work c.loop-t.invariant.2 c.if-is_other.work c.if-is_other.code (sym other ∙ w.0.left) w.1 w.2)
-          c.if-is_other.branch,
+      elim c.if-is_other.branch [ then-is_other w ↦ ap length w.work-is ∙ w.join_source.auto.work ∙ c.loop-t.invariant.1 | else-is_other w ↦ ap length w.work-is ∙ c.loop-t.invariant.1 ],
+      elim c.if-is_other.branch [ then-is_other w ↦ readers-join a.work.now a.a a.readers.now a.x c.loop-t.t c.loop-t.code c.loop-t.work c.loop-t.invariant.2 c.if-is_other.work w.join_source.result c.if-is_other.code (sym other ∙ w.if-is_other.true)
+          (subst (λ l. Joins c.loop-t.work a.a _ w.join_source.result l) (sym w.work-is) w.join_source.ensures) (w.code-is ∙ w.more-code.ensures) | else-is_other w ↦ readers-skip a.work.now a.a a.readers.now a.x c.loop-t.t c.loop-t.code c.loop-t.work c.loop-t.invariant.2 c.if-is_other.work c.if-is_other.code (sym other ∙ w.if-is_other.false) w.work-is w.code-is ],
     )
 
 pub shape_of-work : goal.shape_of-work
