@@ -31,11 +31,13 @@ use Rattle.picture.proofs.Endings.{refusal-few}
 
 each-has : {A B : Type 0} (f : A → List B) (l : List A) {x : A} {y : B} → Among x l → Among y (f x) → Among y (each f l)
 unfolding each
+each-has f [] x4 m = elim x4 [ ]
 each-has f (x ∷ l) Among.top m = among_first (f x) (each f l) m
 each-has f (z ∷ l) (Among.deeper i) m = among_second (f z) (each f l) (each-has f l i m)
 
 each_of : {A B : Type 0} (f : A → List B) (l : List A) (y : B) → Among y (each f l) → (x : A) × Among x l × Among y (f x)
 unfolding each
+each_of f [] y m = elim m [ ]
 each_of f (z ∷ l) y m = append-among y (f z) (each f l) m
     (λ i. (z, Among.top, i))
     (λ i. let r = each_of f l y i in (r.0, Among.deeper r.1, r.2))

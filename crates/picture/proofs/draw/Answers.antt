@@ -33,10 +33,10 @@ link_all-requires c =
 pub put_fitting-answer-requires : goal.put_fitting-answer-requires
 put_fitting-answer-requires c =
     let a = c.args in
-    count-few a.input.now a.out.now a.work.now (sized (goal.at.put_fitting-answer-requires c).After-size_fault-number) _ _ c.look-looked.ensures c.if-refusal-ne0.false
+    count-few a.input.now a.out.now a.work.now (sized (goal.at.put_fitting-answer-requires c).Else-number-ne0) _ _ c.look-looked.ensures c.if-refusal-ne0.false
 
 pub returns : goal.returns
 returns c =
     let a = c.args in
-    drawn-put a.input.now a.out.now a.work.now (sized (goal.at.returns c).After-size_fault-number) _ _ c.look-looked.ensures c.if-refusal-ne0.false
+    drawn-put a.input.now a.out.now a.work.now (sized (goal.at.returns c).Else-number-ne0) _ _ c.look-looked.ensures c.if-refusal-ne0.false
     _ c.link_all.ensures.0 c.link_all.ensures.1 c.put_fitting-answer.result _ _ c.put_fitting-answer.ensures c.clear.ensures

@@ -18,7 +18,7 @@ room : (c : In-loop-k) →
     c.loop-k.end + length (numbers_of a.count a.labels.now (get_or a.order.now c.loop-k.k 0)) ≤ length c.loop-k.sequence
 room c =
     going-room (numbers_of c.args.count c.args.labels.now) c.args.order.now c.args.sequence.now c.loop-k.sequence c.loop-k.end c.loop-k.k
-    c.requires.1 (omega arith) c.loop-k.invariant.1
+    c.requires.order_in_bounds (omega arith) c.loop-k.invariant.1
 
 pub link-requires : goal.link-requires
 link-requires c =

@@ -10,7 +10,7 @@ use Rattle.checker.proofs.writing.link.Goals as goal
 
 -- the record's transaction has an entry
 low : (c : In-loop-i) → get_or c.args.labels.now (c.loop-i.i - 1) 0 < 512
-low c = c.requires.1.0 (c.loop-i.i - 1) (omega arith)
+low c = c.requires.few.0 (c.loop-i.i - 1) (omega arith)
 
 pub loop-i-init : goal.loop-i-init
 loop-i-init c =

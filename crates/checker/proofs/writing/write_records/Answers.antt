@@ -11,11 +11,11 @@ use Rattle.checker.specs.Writing.{record_in, bytes_in}
 use Rattle.checker.proofs.Written.{going_start, going-room, going_more, going_end, length-each}
 use Rattle.record.proofs.Written.{written-part, written-size}
 use Rattle.looking.proofs.Scanned.{part-is}
-use Rattle.checker.proofs.writing.write_records.Goals.{At-loop-k, In-loop-k}
+use Rattle.checker.proofs.writing.write_records.Goals.{In-loop-k}
 use Rattle.checker.proofs.writing.write_records.Goals as goal
 
 -- all records fit
-fits : (c : At-loop-k) →
+fits : (c : In-loop-k) →
     let a = c.args in
     length (each (bytes_in a.input.now) a.numbers.now) ≤ length a.out.now
 fits c =
@@ -34,7 +34,7 @@ room c =
     let a = c.args in
     omega (
       arith,
-      going-room (bytes_in a.input.now) a.numbers.now a.out.now c.loop-k.out c.loop-k.n c.loop-k.k (fits c.?At-loop-k) (omega arith) c.loop-k.invariant.1,
+      going-room (bytes_in a.input.now) a.numbers.now a.out.now c.loop-k.out c.loop-k.n c.loop-k.k (fits c) (omega arith) c.loop-k.invariant.1,
       length-encoded (event (record_in a.input.now (get_or a.numbers.now c.loop-k.k 0))),
     )
 
@@ -56,6 +56,9 @@ slice_bounds-event_of-count c = omega (arith, low (goal.at.slice_bounds-event_of
 pub slice_bounds-encode-count : goal.slice_bounds-encode-count
 slice_bounds-encode-count c = omega (arith, room (goal.at.slice_bounds-encode-count c).In-loop-k)
 
+pub slice_bounds-encode-start : goal.slice_bounds-encode-start
+slice_bounds-encode-start c = omega (arith, room (goal.at.slice_bounds-encode-start c).In-loop-k)
+
 pub overflow_add-n : goal.overflow_add-n
 overflow_add-n c = omega (arith, room (goal.at.overflow_add-n c).In-loop-k, size-most _ _ c.encode-n.ensures.0)
 
@@ -67,7 +70,7 @@ loop-k-preserved c =
     let r : c.loop-k.n + 8 ≤ length c.loop-k.out = omega (arith, room (goal.at.loop-k-preserved c).In-loop-k, length-encoded e) in
     let w = c.encode-n.ensures in (
       omega arith,
-      going_more (bytes_in a.input.now) a.numbers.now a.out.now c.loop-k.out c.loop-k.n c.loop-k.k _ _ (fits (goal.at.loop-k-preserved c).At-loop-k) (omega arith) c.loop-k.invariant.1
+      going_more (bytes_in a.input.now) a.numbers.now a.out.now c.loop-k.out c.loop-k.n c.loop-k.k _ _ (fits (goal.at.loop-k-preserved c).In-loop-k) (omega arith) c.loop-k.invariant.1
           (written-part e c.loop-k.out c.loop-k.n r _ w.1 ∙ ap (written_at c.loop-k.out c.loop-k.n) is)
           (ap (λ m. c.loop-k.n + m) (w.0 ∙ written-size e c.loop-k.out c.loop-k.n r ∙ sym (length-encoded e) ∙ ap length is)),
     )

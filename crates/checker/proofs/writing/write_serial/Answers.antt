@@ -20,7 +20,7 @@ lined c =
     lined-up a.count a.labels.now a.order.now c.line_up-n.result _ c.line_up-n.new.sequence c.line_up-n.ensures.0 c.line_up-n.ensures.1
 
 inside : (c : After-line_up-n) → c.line_up-n.result ≤ length c.line_up-n.new.sequence
-inside c = omega (arith, c.line_up-n.ensures.0, c.requires.1.1, c.requires.0.0)
+inside c = omega (arith, c.line_up-n.ensures.0, c.requires.few.1, c.requires.count_bound.0)
 
 pub line_up-n-requires : goal.line_up-n-requires
 line_up-n-requires c =

@@ -17,9 +17,6 @@ loop-i-init c =
     let all : List Event = events_in a.threads.now a.kinds.now a.targets.now in
     (omega arith, partly_none (held a.k all a.labels.now) (record_at all a.labels.now a.k) a.work.now c.requires.links)
 
-pub link-requires : goal.link-requires
-link-requires c = record { count_bound = omega arith; few = omega arith }
-
 pub loop-i-preserved : goal.loop-i-preserved
 unfolding held
 loop-i-preserved c =
