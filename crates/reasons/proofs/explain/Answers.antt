@@ -2,29 +2,29 @@
 use native.Mathlib.Omega.{arith}
 use Rattle.looking.specs.Looked.{arrays_of}
 use Rattle.reasons.proofs.Asking.{Violates, judged-as, violated, lines-violation, lines_none}
-use Rattle.reasons.proofs.explain.Goals.{In-Violation-2}
+use Rattle.reasons.proofs.explain.Goals.{In-Violation}
 use Rattle.reasons.proofs.explain.Goals as goal
 
 -- what the violation says, where its numbers are known
-found : (c : In-Violation-2) →
+found : (c : In-Violation) →
     let a = c.args in
-    Violates a.input.now a.out.now a.work.now (arrays_of c.judge_into-answer.new.threads c.judge_into-answer.new.kinds c.judge_into-answer.new.targets c.judge_into-answer.new.labels) c.judge_into-answer.new.order c.in-Violation.record c.in-Violation.length
+    Violates a.input.now a.out.now a.work.now (arrays_of c.judge_into-answer.new.threads c.judge_into-answer.new.kinds c.judge_into-answer.new.targets c.judge_into-answer.new.labels) c.judge_into-answer.new.order c.in-Violation.«record» c.in-Violation.length
 found c =
     let a = c.args in
     violated a.input.now a.out.now a.work.now c.judge_into-answer.result _ _ c.judge_into-answer.ensures.0 _ _ c.in-Violation.is _ _ _ _ c.judge_into-answer.ensures.1 c.judge_into-answer.ensures.2
 
 pub slice_bounds-order-end : goal.slice_bounds-order-end
-slice_bounds-order-end c = (found (goal.at.slice_bounds-order-end c).In-Violation-2).room
+slice_bounds-order-end c = (found (goal.at.slice_bounds-order-end c).In-Violation).room
 
 pub slice_bounds-cycle-end : goal.slice_bounds-cycle-end
-slice_bounds-cycle-end c = (found (goal.at.slice_bounds-cycle-end c).In-Violation-2).front
+slice_bounds-cycle-end c = (found (goal.at.slice_bounds-cycle-end c).In-Violation).front
 
 pub overflow_add-record : goal.overflow_add-record
-overflow_add-record c = omega (arith, (found (goal.at.overflow_add-record c).In-Violation-2).most)
+overflow_add-record c = omega (arith, (found (goal.at.overflow_add-record c).In-Violation).most)
 
 pub write_lines-requires : goal.write_lines-requires
 write_lines-requires c =
-    let v = found (goal.at.write_lines-requires c).In-Violation-2 in
+    let v = found (goal.at.write_lines-requires c).In-Violation in
     (omega arith, omega (arith, v.most), omega (arith, v.front, v.few, c.write_lines-arg-1.given.0.1))
 
 pub returns-in-Violation : goal.returns-in-Violation

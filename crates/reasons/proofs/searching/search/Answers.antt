@@ -6,7 +6,7 @@ use mathlib.Core.Logic.{⊎_elim}
 use borrow.Author.Count.{below_more}
 use Rattle.graph.specs.Held.{events_in}
 use Rattle.reasons.proofs.Hits.{hit-is, passed_over, hit-first, hit-none}
-use Rattle.reasons.proofs.searching.search.Goals.{else-labels-i, then-labels-i}
+use Rattle.reasons.proofs.searching.search.Goals.{then-labels-i+else-loop-j-test, else-labels-i}
 use Rattle.reasons.proofs.searching.search.Goals as goal
 
 pub search-init : goal.search-init
@@ -32,12 +32,12 @@ loop-j-preserved c =
 pub search-preserved : goal.search-preserved
 search-preserved c =
     let a = c.args in
-    elim c.if-labels-i.branch [ then-labels-i q ↦ (
-      q.3 ∙ q.1.inv.0,
+    elim c.if-labels-i.branch [ then-labels-i+else-loop-j-test q ↦ (
+      q.found-is ∙ q.loop-j.invariant.0,
       omega arith,
-      below_more _ _ c.search.invariant.2 (λ m p r. q.1.inv.3 m (omega (arith, q.2.left)) p),
+      below_more _ _ c.search.invariant.2 (λ m p r. q.loop-j.invariant.3 m (omega (arith, q.loop-j-test.false)) p),
     ) | else-labels-i q ↦ (
-      q.1 ∙ c.search.invariant.0,
+      q.found-is ∙ c.search.invariant.0,
       omega arith,
       below_more _ _ c.search.invariant.2 (λ m p r. passed_over (events_in a.threads.now a.kinds.now a.targets.now) a.labels.now a.count a.a a.b c.search.i (omega arith) q.if-labels-i.false m),
     ) ]
