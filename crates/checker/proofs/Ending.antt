@@ -1,11 +1,11 @@
 -- Laws of the end of a judgement: what is named, that what is to be written fits, and that it is what the definitions name.
-use Prim.Native.Nat.{ℕ, zero, suc, ◌-◌, ◌*◌, ◌/◌, ◌≤◌, ◌<◌, ◌^◌, min}
+use Prim.Native.Nat.{ℕ, suc, ◌-◌, ◌*◌, ◌/◌, ◌≤◌, ◌<◌, ◌^◌, min}
 use native.Mathlib.Omega.{arith}
-use mathlib.Core.Path.{◌≡◌, refl, sym, ap, ap₂, ◌∙◌, subst}
+use mathlib.Core.Path.{◌≡◌, sym, ap, ap₂, ◌∙◌}
 use mathlib.Core.Logic.{◌≢◌}
-use mathlib.Core.List.{List, [], ◌∷◌, ◌++◌, map}
+use mathlib.Core.List.{List, ◌++◌, map}
 use lib.ListN.{length, get_or, take, drop, replicate, length-append, length-replicate}
-use lib.Seq.{length-take-le, take_at}
+use lib.Seq.{length-take-le}
 use Rattle.record.specs.declared.Event.{Event}
 use Rattle.record.specs.Record.{encoded, in_two}
 use Rattle.lists.specs.Lists.{each, over}
@@ -15,7 +15,7 @@ use Rattle.graph.specs.Transactions.{Labelled, labelled, transactions, work_size
 use Rattle.graph.specs.Serial.{events_of, serial_order, serial_trace}
 use Rattle.graph.specs.Violation.{shortest, cycle_of}
 use Rattle.graph.specs.Named.{named}
-use Rattle.graph.specs.Held.{past_end, held, events_in, shown_of, Few}
+use Rattle.graph.specs.Held.{past_end, held, shown_of}
 use Rattle.graph.proofs.Sizes.{order-size, trace-size, cycle-most, transactions-most}
 use Rattle.graph.proofs.Alike.{shown-alike, transactions-alike, shortest-alike, named-alike}
 use Rattle.naming.specs.Naming.{held_in, named_by}
@@ -26,7 +26,7 @@ use Rattle.checker.specs.declared.Answer.{Answer}
 use Rattle.checker.specs.declared.Answer.TheVariants.{Cooperable, Violation}
 use Rattle.checker.specs.Verdict.{verdict, cooperable, violation}
 use Rattle.checker.specs.Writing.{bytes_in, numbers_of}
-use Rattle.checker.specs.Concluded.{Whole, Ready, Named, Written, Concluded}
+use Rattle.checker.specs.Concluded.{Ready, Named, Written, Concluded}
 use Rattle.looking.proofs.Scanned.{events-size, event-at}
 use Rattle.ancestors.proofs.Searching.{found-shown}
 use Rattle.lists.proofs.Lists.{over-front}

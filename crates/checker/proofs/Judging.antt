@@ -1,27 +1,23 @@
 -- Laws of the whole promise: a recording that is refused, and one that is not.
-use Prim.Native.Nat.{ℕ, zero, suc, ◌*◌, ◌/◌, ◌≤◌, min}
+use Prim.Native.Nat.{ℕ, zero, suc, ◌/◌, ◌≤◌, min}
 use native.Mathlib.Omega.{arith}
-use mathlib.Core.Path.{◌≡◌, refl, sym, ap, ap₂, ◌∙◌, subst}
+use mathlib.Core.Path.{◌≡◌, refl, sym, ap, ◌∙◌, subst}
 use mathlib.Core.Logic.{◌≢◌}
-use mathlib.Core.Bool.{◌&&◌}
 use mathlib.Core.List.{List, [], ◌∷◌, ◌++◌, map}
 use lib.Dec.{leb}
 use borrow.Author.Tests.{leb-true}
 use Rattle.record.proofs.Laws.{none_first}
 use Rattle.rows.proofs.Laws.{length-begun, rest-begun}
-use lib.ListN.{length, get_or, take, drop, replicate, length-replicate}
-use Rattle.record.specs.declared.Event.{Event}
+use lib.ListN.{length, drop, replicate, length-replicate}
 use Rattle.record.specs.declared.Refusal.{Refusal}
 use Rattle.record.specs.Answers.{Numbers, refused_as, Ending}
 use Rattle.record.specs.Faults.{Check, check, first_fault}
-use Rattle.lists.specs.Lists.{each, over}
-use Rattle.trace.specs.Paths.{reaches}
+use Rattle.lists.specs.Lists.{over}
 use Rattle.rows.specs.Bits.{begun}
 use Rattle.graph.specs.Transactions.{Labelled, transactions, work_size, labelled}
-use Rattle.graph.specs.Serial.{thread_of}
 use Rattle.graph.specs.Violation.{shortest}
 use Rattle.graph.specs.Named.{named}
-use Rattle.graph.specs.Held.{past_end, array_size, events_in, held, shown_of}
+use Rattle.graph.specs.Held.{array_size, events_in, held, shown_of}
 use Rattle.ancestors.specs.Ancestors.{Stands, Found}
 use Rattle.ancestors.proofs.Standing.{begun-stands}
 use Rattle.ancestors.specs.Search.{Searched, searched}
@@ -38,10 +34,8 @@ use Rattle.checker.specs.declared.Answer.{Answer}
 use Rattle.checker.specs.declared.Answer.TheVariants.{Refused}
 use Rattle.checker.specs.Verdict.{numbers, verdict}
 use Rattle.checker.specs.Judged.{size_checks, refusal, judged}
-use Rattle.checker.specs.Report.{reported}
-use Rattle.checker.specs.Report as Report
 use Rattle.checker.specs.Left.{arrays_left, order_left}
-use Rattle.checker.specs.Concluded.{Whole, LookedAt, Ready, named_in, Written, Concluded}
+use Rattle.checker.specs.Concluded.{Whole, LookedAt, Ready, Concluded}
 
 -- the three contents that are left
 abbrev pub left : Numbers → List ℕ → List ℕ → Ending

@@ -5,29 +5,25 @@ use native.Mathlib.Omega.{arith}
 use mathlib.Core.Path.{◌≡◌, refl, sym, ap, ap₂, ◌∙◌, subst, fun_ext}
 use mathlib.Core.Logic.{◌≢◌}
 use mathlib.Core.Bool.{cond}
-use mathlib.Core.List.{List, [], ◌∷◌, ◌++◌}
+use mathlib.Core.List.{List, [], ◌∷◌}
 use lib.Dec.{ltb}
-use lib.ListN.{length, get_or, take, drop, length-append}
+use lib.ListN.{length, get_or, take}
 use borrow.Author.Tests.{lt-ltb, le-ltb, ltb-true, ltb-false}
 use Rattle.lists.proofs.Tests.{by}
 use Rattle.record.specs.declared.Event.{Event}
-use Rattle.record.specs.Answers.{Numbers, refused_as, Ending}
 use Rattle.record.specs.Faults.{first_fault}
 use Rattle.lists.specs.Lists.{each, over}
 use Rattle.lists.proofs.Lists.{over-front}
-use Rattle.graph.specs.Transactions.{transactions, labelled}
 use Rattle.graph.specs.Serial.{thread_of}
 use Rattle.graph.specs.Violation.{shortest}
 use Rattle.graph.specs.Named.{named}
-use Rattle.graph.specs.Held.{past_end, held}
 use Rattle.graph.proofs.Sizes.{order-size, cycle-most}
 use Rattle.looking.specs.Refusals.{events}
 use Rattle.looking.specs.Looked.{Arrays, looked}
-use Rattle.looking.proofs.Refusing.{sizes-passed}
-use Rattle.looking.proofs.Laws.{Passed, Noted, looked-noted}
+use Rattle.looking.proofs.Laws.{Noted, looked-noted}
 use Rattle.checker.specs.declared.Answer.{Answer}
 use Rattle.checker.specs.declared.Answer.TheVariants.{Cooperable, Violation, Refused}
-use Rattle.checker.specs.Verdict.{numbers, verdict, cooperable, violation}
+use Rattle.checker.specs.Verdict.{numbers, cooperable, violation}
 use Rattle.checker.specs.Judged.{size_checks, refusal, judged}
 use Rattle.checker.specs.Report as Report
 use Rattle.checker.specs.Report.{reported}

@@ -1,12 +1,12 @@
 -- Laws of what is written, piece after piece.
-use Prim.Native.Nat.{ℕ, zero, suc, ◌+◌, ◌*◌, ◌-◌, ◌≤◌, ◌<◌}
+use Prim.Native.Nat.{ℕ, suc, ◌+◌, ◌*◌, ◌≤◌, ◌<◌}
 use native.Mathlib.Omega.{arith}
-use native.Mathlib.Nat.{add-zero, zero-add, add_comm, mul-suc, mul-zero}
+use native.Mathlib.Nat.{zero-add, add_comm, mul-suc, mul-zero}
 use native.Mathlib.Numerals.{add-one}
 use mathlib.Core.Path.{◌≡◌, refl, sym, ap, ap₂, ◌∙◌, subst}
-use mathlib.Core.List.{List, [], ◌∷◌, ◌++◌, map, append_assoc, append-nil}
-use lib.ListN.{length, get_or, set, take, drop, length-append, length-drop, take-append-drop, drop_of_length-le}
-use lib.Seq.{set_split, take_all, take-append_seam, drop-drop, drop-cons, length-take-le, take_at, drop-append-add, sets-eq, paste, paste-suc}
+use mathlib.Core.List.{List, [], ◌∷◌, ◌++◌, append_assoc}
+use lib.ListN.{length, get_or, set, take, drop, length-append, drop_of_length-le}
+use lib.Seq.{drop-cons, sets-eq}
 use Rattle.lists.proofs.Places.{written-nothing, written_start, length-written, written-more}
 use Rattle.lists.specs.Lists.{each, over, written_at}
 use mathlib.Core.Bool.{cond}

@@ -1,6 +1,6 @@
 -- What the checker's private functions promise one another about what they write.
 -- A reader of the public promises need not read this.
-use Rattle.std.specs.Prelude.{ℕ, zero, suc, ◌+◌, ◌-◌, ◌*◌, ◌<◌, ◌≡◌, true, false, cond, List, [], ◌∷◌, ◌++◌, eqb, ltb, length, get_or, take, drop}
+use Rattle.std.specs.Prelude.{ℕ, zero, suc, ◌-◌, ◌*◌, ◌<◌, ◌≡◌, true, false, cond, List, [], ◌∷◌, eqb, ltb, length, get_or, take, drop}
 use Rattle.record.specs.Record.{record_size, event, encoded}
 use Rattle.lists.specs.Lists.{keep, first_of, from}
 

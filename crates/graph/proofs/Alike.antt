@@ -1,7 +1,7 @@
 -- The graph looks at an operation's thread, kind and target and at nothing else: with others that are alike in these the transactions, the edges, the
 -- shortest prefix with a cycle, the cycle and the serial order are the same.
 use Prim.Native.Nat.{ℕ, zero, suc, pred}
-use mathlib.Core.Path.{◌≡◌, refl, sym, ap, ap₂, ◌∙◌, fun_ext}
+use mathlib.Core.Path.{◌≡◌, refl, ap, ap₂, ◌∙◌, fun_ext}
 use mathlib.Core.Bool.{Bool, true, false, cond, not, ◌&&◌, ◌||◌}
 use mathlib.Core.List.{List, [], ◌∷◌, ◌++◌, map}
 use lib.ListN.{get_or, set, length, take}

@@ -13,7 +13,7 @@ use Rattle.record.proofs.Laws.{none_first}
 use Rattle.lists.specs.Lists.{over}
 use Rattle.graph.specs.Transactions.{work_size}
 use Rattle.looking.specs.Refusals.{input_checks, refused_by, events}
-use Rattle.looking.proofs.Refusing.{sized, inputs-next, inputs-passed, sizes-passed, more-passed}
+use Rattle.looking.proofs.Refusing.{sized, inputs-next, inputs-passed, more-passed}
 use Rattle.looking.proofs.Laws.{Passed, passed-more}
 use Rattle.proposal.specs.Walk.{finished, stop}
 use Rattle.proposal.specs.Proposed.{size_checks, refusal, done, refused, proposed, lines_from, told}

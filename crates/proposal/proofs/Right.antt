@@ -1,6 +1,6 @@
 -- Proposed yields are what document 02 says: the finished recording is cooperable, it is the input once the added yields are taken out, and each of them is
 -- needed. Of every input, output and work area that aren't refused.
-use Prim.Native.Nat.{ℕ, zero, suc, ◌/◌, ◌≤◌}
+use Prim.Native.Nat.{ℕ, suc, ◌/◌}
 use native.Mathlib.Omega.{arith}
 use mathlib.Core.Path.{◌≡◌, refl, sym, ap, ◌∙◌, subst}
 use mathlib.Core.Bool.{Bool, true, false, not}
@@ -16,7 +16,7 @@ use Rattle.lists.specs.Lists.{all_of, keep, from, over}
 use Rattle.lists.proofs.Tests.{by, by-same}
 use Rattle.lists.proofs.Lists.{Among, append-among, among_second, all-has, all-of, first-default, first-is, from-bound, map-append, keep-true, keep-false}
 use Rattle.trace.specs.Paths.{cyclic}
-use Rattle.graph.specs.Transactions.{labelled, transactions}
+use Rattle.graph.specs.Transactions.{labelled}
 use Rattle.graph.specs.Edges.{edges}
 use Rattle.graph.specs.Violation.{edges_up_to, cyclic_up_to, shortest}
 use Rattle.graph.proofs.Meaning.{cycle-stays}

@@ -14,15 +14,15 @@ use Rattle.lists.proofs.Tests.{by, T_of, and_right}
 use Rattle.graph.specs.Conflict.{accesses, writes, locks, forks, joins, same_thread, same_variable, same_lock, governs, same_child, conflict}
 use Rattle.reasons.specs.declared.Reason.{Reason}
 use Rattle.reasons.specs.declared.Reason.TheVariants.{Thread, Variable, Lock, ForkJoin}
-use Rattle.reasons.specs.Why.{name_of, number_of, ground, grounds, reason_of}
+use Rattle.reasons.specs.Why.{name_of, number_of, ground_of, grounds, reason_of}
 use Rattle.reasons.specs.Meaning.{Holds}
 
 -- what is given for a thread t and two targets x and y, by what holds: the same thread, variable and lock, the first governing the second and the
 -- second the first, the same child
 unfoldable pub chosen : ℕ → ℕ → ℕ → Bool → Bool → Bool → Bool → Bool → Bool → Reason
 chosen t x y thread variable lock first second child =
-    (first_of (λ g. g.holds) (ground (ForkJoin x) false)
-    (ground (Thread t) thread ∷ ground (Variable x) variable ∷ ground (Lock x) lock ∷ ground (ForkJoin x) first ∷ ground (ForkJoin y) second ∷ ground (ForkJoin x) child ∷ [])
+    (first_of (λ g. g.holds) (ground_of (ForkJoin x) false)
+    (ground_of (Thread t) thread ∷ ground_of (Variable x) variable ∷ ground_of (Lock x) lock ∷ ground_of (ForkJoin x) first ∷ ground_of (ForkJoin y) second ∷ ground_of (ForkJoin x) child ∷ [])
     ).reason
 
 module _ (a b : Event) where

@@ -36,23 +36,23 @@ pub record Ground : Type 0 where
   pub reason : Reason
   pub holds : Bool
 
-abbrev pub ground : Reason → Bool → Ground
-ground r h = record { reason = r; holds = h }
+abbrev pub ground_of : Reason → Bool → Ground
+ground_of r h = record { reason = r; holds = h }
 
 -- The reasons of a, which stands before b, in 02's order. Where each forks or joins the other's thread, a's target goes first
 unfoldable pub grounds : Event → Event → List Ground
 grounds a b =
-    ground (Thread a.thread) (same_thread a b)
-    ∷ ground (Variable (target a.op)) (same_variable a b)
-    ∷ ground (Lock (target a.op)) (same_lock a b)
-    ∷ ground (ForkJoin (target a.op)) (governs a b)
-    ∷ ground (ForkJoin (target b.op)) (governs b a)
-    ∷ ground (ForkJoin (target a.op)) (same_child a b)
+    ground_of (Thread a.thread) (same_thread a b)
+    ∷ ground_of (Variable (target a.op)) (same_variable a b)
+    ∷ ground_of (Lock (target a.op)) (same_lock a b)
+    ∷ ground_of (ForkJoin (target a.op)) (governs a b)
+    ∷ ground_of (ForkJoin (target b.op)) (governs b a)
+    ∷ ground_of (ForkJoin (target a.op)) (same_child a b)
     ∷ []
 
 -- the first that holds; any where none does
 unfoldable pub reason_of : Event → Event → Reason
-reason_of a b = (first_of (λ g. g.holds) (ground (ForkJoin (target a.op)) false) (grounds a b)).reason
+reason_of a b = (first_of (λ g. g.holds) (ground_of (ForkJoin (target a.op)) false) (grounds a b)).reason
 
 -- what stands past the end of the records, where nobody looks
 abbrev pub no_event : Event

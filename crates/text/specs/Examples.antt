@@ -1,7 +1,6 @@
 -- Lines and texts on each side of the form, as one table, proved of the definitions by computing them.
 use Rattle.std.specs.Prelude.{ℕ, ◌≡◌, refl, List, [], ◌∷◌, ◌++◌, replicate}
 use Prim.Native.String.{String}
-use Rattle.text.specs.Line as Lines
 use Rattle.text.specs.File as Files
 use Rattle.text.specs.Line.{ascii}
 use Rattle.text.specs.File.{read_text, write_text, done, refused}

@@ -1,10 +1,8 @@
 -- `ancestors::spread` meets its contract: after d turns the first d rows are seen to.
-use Prim.Native.Nat.{ℕ, ◌-◌}
+use Prim.Native.Nat.{ℕ}
 use native.Mathlib.Omega.{arith}
 use mathlib.Core.Path.{◌≡◌, refl, sym, ap, ◌∙◌}
-use mathlib.Core.Logic.{⊎_elim}
 use mathlib.Core.Bool.{Bool, cond}
-use lib.ListN.{length}
 use Rattle.rows.specs.Bits.{joined}
 use Rattle.ancestors.specs.Sources.{spread_to}
 use Rattle.ancestors.proofs.Joining.{spread-next}
@@ -17,14 +15,13 @@ loop-d-init c = (omega arith, refl, refl)
 
 pub loop-d-preserved : goal.loop-d-preserved
 loop-d-preserved c =
-    let a = c.args in
-    (
+    let a = c.args in (
       omega arith,
       c.if-test.auto.work ∙ c.loop-d.invariant.1,
       spread-next a.work.now c.loop-d.work c.if-test.work c.loop-d.d a.a c.loop-d.invariant.2
           (elim c.if-test.branch [
-            then-test w ↦ w.work-is ∙ w.join.ensures ∙ sym (ap (λ (b : Bool). cond b (joined c.loop-d.work c.loop-d.d a.a) c.loop-d.work) (sym c.test.ensures ∙ w.if-test.true))
-          | else-test w ↦ w.work-is ∙ sym (ap (λ (b : Bool). cond b (joined c.loop-d.work c.loop-d.d a.a) c.loop-d.work) (sym c.test.ensures ∙ w.if-test.false))
+            | then-test w ↦ w.work-is ∙ w.join.ensures ∙ sym (ap (λ (b : Bool). cond b (joined c.loop-d.work c.loop-d.d a.a) c.loop-d.work) (sym c.test.ensures ∙ w.if-test.true))
+            | else-test w ↦ w.work-is ∙ sym (ap (λ (b : Bool). cond b (joined c.loop-d.work c.loop-d.d a.a) c.loop-d.work) (sym c.test.ensures ∙ w.if-test.false))
           ]),
     )
 

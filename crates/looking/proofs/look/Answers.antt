@@ -14,9 +14,12 @@ returns-then-number-ne0 c =
 
 pub see_all-requires : goal.see_all-requires
 see_all-requires c =
-    record { input_value = sym c.input_fault-number.ensures ∙ c.if-number-ne0.false; roomy = record {
+    record {
+      input_value = sym c.input_fault-number.ensures ∙ c.if-number-ne0.false;
+      roomy = record {
         threads-size = c.see_all-arg-1.given.0.1;
         kinds-size = c.see_all-arg-2-1.given.0.1;
         targets-size = c.see_all-arg-3-1.given.0.1;
         labels-size = c.see_all-arg-4-1.given.0.1;
-      } }
+      };
+    }

@@ -2,7 +2,6 @@
 use Prim.Native.Nat.{◌<◌, ◌≤◌, min}
 use native.Mathlib.Omega.{arith}
 use mathlib.Core.Path.{◌≡◌, sym, ap, ◌∙◌}
-use mathlib.Core.Logic.{⊎_elim}
 use lib.ListN.{length}
 use Rattle.lists.specs.Lists.{over}
 use Rattle.graph.specs.Serial.{thread_of}
@@ -110,6 +109,6 @@ returns c =
     let some : 0 < p = omega (arith, c.if-prefix-eq0.false) in
     let most : p ≤ count = omega (arith, least, c.if-records-prefix.false) in
     none_written (named_by xs n p rows) c.args.order.now (elim c.else-t-n.branch [
-      else-t-n-via-then-t-n+else-test w ↦ nothing-away n count all ls p rows (omega arith) (omega arith) some most (sym w.test.ensures ∙ w.if-test.false)
-    | else-t-n-via-else-t-n w ↦ nothing-outside n count all ls p rows (omega arith) (omega arith) some most w.if-t-n.false
+      | else-t-n-via-then-t-n+else-test w ↦ nothing-away n count all ls p rows (omega arith) (omega arith) some most (sym w.test.ensures ∙ w.if-test.false)
+      | else-t-n-via-else-t-n w ↦ nothing-outside n count all ls p rows (omega arith) (omega arith) some most w.if-t-n.false
     ])

@@ -1,5 +1,5 @@
 -- `plain::search` meets its contract: after i turns the search from record i on finds what all find.
-use Prim.Native.Nat.{◌-◌, min}
+use Prim.Native.Nat.{min}
 use native.Mathlib.Omega.{arith}
 use mathlib.Core.Path.{refl, sym, ◌∙◌}
 use borrow.Author.Tests.{ltb-true, ltb-false}
@@ -36,8 +36,7 @@ loop-i-smaller c = omega (arith, ltb-true)
 
 pub loop-i-preserved : goal.loop-i-preserved
 loop-i-preserved c =
-    let a = c.args in
-    (
+    let a = c.args in (
       omega (arith, ltb-true),
       c.take.auto.work ∙ c.loop-i.invariant.1,
       c.loop-i.invariant.2

@@ -1,5 +1,5 @@
 -- `rows::begin` meets its contract: after a turns the first a bits of the diagonal are set.
-use Prim.Native.Nat.{ℕ, ◌-◌, min}
+use Prim.Native.Nat.{ℕ, min}
 use native.Mathlib.Omega.{arith}
 use native.Mathlib.Numerals.{add-one}
 use mathlib.Core.Path.{◌≡◌, refl, sym, ap, ap₂, ◌∙◌}
@@ -18,8 +18,7 @@ loop-a-smaller c = omega (arith, ltb-true)
 pub loop-a-preserved : goal.loop-a-preserved
 unfolding diagonal_to
 loop-a-preserved c =
-    let w₀ : List ℕ = c.clear.new.w in
-    (
+    let w₀ : List ℕ = c.clear.new.w in (
       omega (arith, ltb-true),
       c.mark.auto.w ∙ c.loop-a.invariant.1,
       c.mark.ensures ∙ ap (λ (w : List ℕ). marked w c.loop-a.a c.loop-a.a) c.loop-a.invariant.2 ∙ ap (λ (n : ℕ). diagonal_to n w₀) (sym (add-one c.loop-a.a)),

@@ -1,5 +1,4 @@
 -- `second::search` meets its contract: i operations are behind it, and what is left gives what all give.
-use Prim.Native.Nat.{◌-◌}
 use native.Mathlib.Omega.{arith}
 use mathlib.Core.Path.{refl, ◌∙◌}
 use borrow.Author.Tests.{ltb-true, ltb-false}
@@ -34,8 +33,7 @@ returns-then-take c =
 
 pub loop-i-preserved : goal.loop-i-preserved
 loop-i-preserved c =
-    let a = c.args in
-    (
+    let a = c.args in (
       omega (arith, ltb-true),
       c.take.auto.work ∙ c.loop-i.invariant.1,
       seeking-more a.threads.now a.kinds.now a.targets.now a.labels.now a.count a.work.now c.loop-i.i c.loop-i.begun (cells_of c.loop-i.locks c.loop-i.lasts c.loop-i.writers c.loop-i.readers) c.loop-i.work c.loop-i.invariant.2 (omega arith) (omega (arith, ltb-true))

@@ -1,5 +1,5 @@
 -- `checker::writing::link` meets its contract: one record more is linked, the last first.
-use Prim.Native.Nat.{◌-◌, ◌≤◌}
+use Prim.Native.Nat.{◌≤◌}
 use mathlib.Core.Path.{◌≡◌}
 use lib.ListN.{length}
 use Rattle.checker.proofs.Linking.{Linking}

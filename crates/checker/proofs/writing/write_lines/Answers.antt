@@ -1,8 +1,7 @@
 -- `checker::writing::write_lines` meets its contract: three stores for each transaction.
-use Prim.Native.Nat.{ℕ, ◌+◌, ◌*◌, ◌-◌, ◌≤◌}
+use Prim.Native.Nat.{ℕ, ◌+◌, ◌*◌, ◌≤◌}
 use native.Mathlib.Omega.{arith}
 use mathlib.Core.Path.{◌≡◌, sym, ap, ◌∙◌}
-use mathlib.Core.Logic.{⊎_elim}
 use mathlib.Core.Bool.{cond}
 use mathlib.Core.List.{List}
 use lib.Dec.{ltb}
@@ -59,9 +58,12 @@ loop-k-preserved c =
     let a : ℕ = get_or c.args.order.now c.loop-k.k 0 in
     let is : c.first_of-i.result ≡ first_from n labels a 0 = c.first_of-i.ensures ∙ c.link.ensures.first-is a in
     let told : (c.if-i-lt1024.thread ≡ cond (ltb c.first_of-i.result no_record) (get_or threads c.first_of-i.result 0) 0) × (c.if-i-lt1024.first ≡ cond (ltb c.first_of-i.result no_record) c.first_of-i.result 0) =
-    elim c.if-i-lt1024.branch [ then-i-lt1024 w ↦ let low = lt-ltb c.first_of-i.result no_record w.if-i-lt1024.true in
-    (w.thread-is ∙ w.wide-thread.ensures ∙ sym (ap (λ t. cond t (get_or threads c.first_of-i.result 0) 0) low), w.first-is ∙ sym (ap (λ t. cond t c.first_of-i.result 0) low)) | else-i-lt1024 w ↦ let high = le-ltb c.first_of-i.result no_record w.if-i-lt1024.false in
-    (w.thread-is ∙ sym (ap (λ t. cond t (get_or threads c.first_of-i.result 0) 0) high), w.first-is ∙ sym (ap (λ t. cond t c.first_of-i.result 0) high)) ] in
+    elim c.if-i-lt1024.branch [
+      | then-i-lt1024 w ↦ let low = lt-ltb c.first_of-i.result no_record w.if-i-lt1024.true in
+          (w.thread-is ∙ w.wide-thread.ensures ∙ sym (ap (λ t. cond t (get_or threads c.first_of-i.result 0) 0) low), w.first-is ∙ sym (ap (λ t. cond t c.first_of-i.result 0) low))
+      | else-i-lt1024 w ↦ let high = le-ltb c.first_of-i.result no_record w.if-i-lt1024.false in
+          (w.thread-is ∙ sym (ap (λ t. cond t (get_or threads c.first_of-i.result 0) 0) high), w.first-is ∙ sym (ap (λ t. cond t c.first_of-i.result 0) high))
+    ] in
     let size : length (line_of n threads labels a) ≡ 3 = length-line n threads labels a in (
       omega arith,
       going_more (line_of n threads labels) c.args.order.now c.args.lines.now c.loop-k.lines (3 * c.loop-k.k) c.loop-k.k _ (3 * (c.loop-k.k + 1))

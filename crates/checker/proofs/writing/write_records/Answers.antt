@@ -1,5 +1,5 @@
 -- `checker::writing::write_records` meets its contract: one record after the other into the rest of the output.
-use Prim.Native.Nat.{◌+◌, ◌/◌, ◌-◌, ◌≤◌, ◌<◌}
+use Prim.Native.Nat.{◌+◌, ◌/◌, ◌≤◌, ◌<◌}
 use native.Mathlib.Omega.{arith}
 use mathlib.Core.Path.{◌≡◌, sym, ap, ◌∙◌}
 use lib.ListN.{length, get_or}

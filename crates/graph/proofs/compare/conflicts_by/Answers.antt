@@ -1,7 +1,6 @@
 -- `graph::compare::conflicts_by` meets its contract. Assumes nothing.
 use native.Mathlib.Omega.{arith}
 use mathlib.Core.Path.{ap, ◌∙◌}
-use mathlib.Core.Logic.{⊎_elim}
 use Rattle.graph.specs.Conflict.{code}
 use Rattle.graph.proofs.Clash.{kind-in-low, kind-in-high, touched-right, governed-right, untouched-right}
 use Rattle.graph.proofs.compare.conflicts_by.Goals as goal

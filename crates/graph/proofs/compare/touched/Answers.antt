@@ -1,7 +1,6 @@
 -- `graph::compare::touched` meets its contract. Assumes nothing.
 use mathlib.Core.Path.{sym}
 use mathlib.Core.Bool.{or-false}
-use borrow.Author.Tests.{ne_eqb}
 use Rattle.graph.proofs.compare.touched.Goals as goal
 
 pub returns-in-1 : goal.returns-in-1

@@ -1,5 +1,4 @@
 -- `graph::compare::untouched` meets its contract. Assumes nothing.
-use borrow.Author.Tests.{ne_eqb}
 use Rattle.graph.proofs.compare.untouched.Goals as goal
 
 pub returns-in-3 : goal.returns-in-3

@@ -1,6 +1,5 @@
 -- `graph::tally::left` meets its contract. Assumes nothing.
-use mathlib.Core.Logic.{⊎_elim, inl, inr}
-use borrow.Author.Tests.{ne_eqb}
+use mathlib.Core.Logic.{⊎_elim}
 use Rattle.graph.proofs.tally.left.Goals as goal
 
 pub returns-in-5 : goal.returns-in-5

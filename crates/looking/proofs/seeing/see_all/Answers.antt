@@ -1,5 +1,5 @@
 -- `looking::seeing::see_all` meets its contract: after i turns, the first i records have led to what the arrays hold.
-use Prim.Native.Nat.{ℕ, ◌-◌}
+use Prim.Native.Nat.{ℕ}
 use native.Mathlib.Omega.{arith}
 use mathlib.Core.Path.{sym, ap, ◌∙◌, subst}
 use mathlib.Core.List.{List}
@@ -73,8 +73,7 @@ loop-i-preserved c =
     let input : List ℕ = a.input.now in
     let old : Arrays = arrays_of a.threads.now a.kinds.now a.targets.now a.labels.now in
     let run : Run = run_of c.loop-i.values c.loop-i.holders c.loop-i.lives c.loop-i.waits c.loop-i.current c.loop-i.transactions in
-    let here : Arrays = arrays_of c.loop-i.threads c.loop-i.kinds c.loop-i.targets c.loop-i.labels in
-    (
+    let here : Arrays = arrays_of c.loop-i.threads c.loop-i.kinds c.loop-i.targets c.loop-i.labels in (
       omega arith,
       stored-room here c.loop-i.i _ _ _ _ c.loop-i.invariant.1,
       under_more input old run here c.loop-i.i (omega arith) _ (part-is input c.loop-i.i) _ c.in-Sound.event c.in-Sound.transaction _ _ c.kind_of.ensures c.target_of.ensures (omega (arith, c.loop-i.invariant.3)) c.requires.roomy c.loop-i.invariant.2

@@ -1,5 +1,5 @@
 -- `naming::cycle::link_records` meets its contract.
-use Prim.Native.Nat.{◌-◌, ◌≤◌}
+use Prim.Native.Nat.{◌≤◌}
 use mathlib.Core.Path.{◌≡◌}
 use lib.ListN.{length}
 use Rattle.naming.specs.Naming.{Linked}

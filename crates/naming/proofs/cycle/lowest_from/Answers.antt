@@ -3,10 +3,8 @@ use Prim.Native.Nat.{◌+◌, ◌-◌, ◌≤◌, ◌<◌}
 use native.Mathlib.Omega.{arith}
 use native.Mathlib.Numerals.{add-one}
 use mathlib.Core.Path.{sym, ap, ◌∙◌, subst}
-use mathlib.Core.Logic.{inl, inr, ⊎_elim}
-use mathlib.Core.Bool.{not}
-use lib.Dec.{nltb→le}
-use Rattle.lists.proofs.Tests.{by-same, T_of}
+use mathlib.Core.Logic.{inl, inr}
+use Rattle.lists.proofs.Tests.{by-same}
 use lib.ListN.{get_or}
 use Rattle.graph.specs.Held.{events_in}
 use Rattle.naming.proofs.Lowest.{lowest_after, ranked-lower, ranked-higher, passed_none, passed-made, passed-same, passed-all, passed-rest, unmet}
@@ -37,22 +35,22 @@ loop-j-preserved c =
       omega arith,
       omega arith,
       elim c.if-r-lowest.branch [
-        then-r-lowest+then-makes_edge w ↦ omega (arith, w.if-r-lowest.true, w.lowest-is, c.loop-j.invariant.2)
-      | else-r-lowest w ↦ omega (arith, w.lowest-is, c.loop-j.invariant.2)
+        | then-r-lowest+then-makes_edge w ↦ omega (arith, w.if-r-lowest.true, w.lowest-is, c.loop-j.invariant.2)
+        | else-r-lowest w ↦ omega (arith, w.lowest-is, c.loop-j.invariant.2)
       ],
       λ work t most ranked none.
           let below : low ≤ 513 = omega (arith, most, c.loop-j.invariant.2) in
           let own = ranked.own j (omega arith) in-j in
           elim c.if-r-lowest.branch [
-            then-r-lowest+then-makes_edge w ↦ ap (lowest_after n all ls work t i (j + 1)) w.lowest-is
-              ∙ passed-made n all ls work t i j low in-j (get_or c.args.ranks.now j 0)
-              (ranked-lower work t (get_or ls j 0) low below (subst (λ r. r < low) own w.if-r-lowest.true) ∙ sym own) (sym w.makes_edge.ensures ∙ w.if-makes_edge.true)
-          | else-r-lowest w ↦ ap (lowest_after n all ls work t i (j + 1)) w.lowest-is
-              ∙ elim w.else-r-lowest.branch [
-                  else-r-lowest-via-then-r-lowest+else-makes_edge v ↦ passed_none n all ls work t i j low in-j (sym v.makes_edge.ensures ∙ v.if-makes_edge.false)
-                | else-r-lowest-via-else-r-lowest v ↦ by-same (get_or ls j 0) t
-                    (λ of-t. passed_none n all ls work t i j low in-j (unmet n all ls t i j none (omega arith) in-j of-t))
-                    (λ d. passed-same n all ls work t i j low in-j (ranked-higher work t (get_or ls j 0) low below d (subst (λ r. low ≤ r) own v.if-r-lowest.false)))
+            | then-r-lowest+then-makes_edge w ↦ ap (lowest_after n all ls work t i (j + 1)) w.lowest-is
+                ∙ passed-made n all ls work t i j low in-j (get_or c.args.ranks.now j 0)
+                (ranked-lower work t (get_or ls j 0) low below (subst (λ r. r < low) own w.if-r-lowest.true) ∙ sym own) (sym w.makes_edge.ensures ∙ w.if-makes_edge.true)
+            | else-r-lowest w ↦ ap (lowest_after n all ls work t i (j + 1)) w.lowest-is
+                ∙ elim w.else-r-lowest.branch [
+                  | else-r-lowest-via-then-r-lowest+else-makes_edge v ↦ passed_none n all ls work t i j low in-j (sym v.makes_edge.ensures ∙ v.if-makes_edge.false)
+                  | else-r-lowest-via-else-r-lowest v ↦ by-same (get_or ls j 0) t
+                      (λ of-t. passed_none n all ls work t i j low in-j (unmet n all ls t i j none (omega arith) in-j of-t))
+                      (λ d. passed-same n all ls work t i j low in-j (ranked-higher work t (get_or ls j 0) low below d (subst (λ r. low ≤ r) own v.if-r-lowest.false)))
                 ]
           ]
           ∙ c.loop-j.invariant.3 work t most ranked none,

@@ -1,9 +1,8 @@
 -- `naming::cycle::meets` meets its contract.
-use Prim.Native.Nat.{ℕ, suc, ◌-◌, ◌≤◌, ◌<◌}
+use Prim.Native.Nat.{ℕ, suc, ◌≤◌, ◌<◌}
 use native.Mathlib.Omega.{arith}
 use mathlib.Core.Path.{◌≡◌, sym, ap, ◌∙◌, subst}
 use mathlib.Core.Bool.{false, not, ◌&&◌, and-false}
-use mathlib.Core.Logic.{⊎_elim}
 use lib.Dec.{eqb, ltb, ltb→lt, nltb→le}
 use lib.ListN.{get_or}
 use Rattle.lists.proofs.Tests.{by, by-same, T_of}
@@ -67,8 +66,8 @@ loop-j-preserved c =
       reached.of-a,
       λ k lt h. by-same k j
           (λ e. elim c.else-i-j.branch [
-            else-i-j-via-then-i-j+else-makes_edge w ↦ subst (λ l. meets_at n all ls t i l ≡ false) (sym e) (ap (λ p. eqb (get_or ls j 0) t && p) (sym w.makes_edge.ensures ∙ w.if-makes_edge.false) ∙ and-false (eqb (get_or ls j 0) t))
-          | else-i-j-via-else-i-j w ↦ absurd (omega (arith, lt, w.if-i-j.false, e))
+            | else-i-j-via-then-i-j+else-makes_edge w ↦ subst (λ l. meets_at n all ls t i l ≡ false) (sym e) (ap (λ p. eqb (get_or ls j 0) t && p) (sym w.makes_edge.ensures ∙ w.if-makes_edge.false) ∙ and-false (eqb (get_or ls j 0) t))
+            | else-i-j-via-else-i-j w ↦ absurd (omega (arith, lt, w.if-i-j.false, e))
           ])
           (λ d. by (ltb k j)
           (λ q. c.loop-j.invariant.2 k lt (ltb→lt k j (T_of q)))

@@ -15,7 +15,7 @@ returns-then-test c =
 pub returns : goal.returns
 returns c =
     sym (elim c.else-b-lt512.branch [
-      else-b-lt512-via-then-b-lt512+then-b-t+else-test w ↦ rank-away c.args.work.now c.args.t c.args.b (sym w.test.ensures ∙ w.if-test.false)
-    | else-b-lt512-via-then-b-lt512+else-b-t w ↦ rank-own c.args.work.now c.args.t c.args.b (ap not (eq-eqb c.args.b c.args.t w.if-b-t.false))
-    | else-b-lt512-via-else-b-lt512 w ↦ rank-beyond c.args.work.now c.args.t c.args.b (le-ltb c.args.b 512 w.if-b-lt512.false)
+      | else-b-lt512-via-then-b-lt512+then-b-t+else-test w ↦ rank-away c.args.work.now c.args.t c.args.b (sym w.test.ensures ∙ w.if-test.false)
+      | else-b-lt512-via-then-b-lt512+else-b-t w ↦ rank-own c.args.work.now c.args.t c.args.b (ap not (eq-eqb c.args.b c.args.t w.if-b-t.false))
+      | else-b-lt512-via-else-b-lt512 w ↦ rank-beyond c.args.work.now c.args.t c.args.b (le-ltb c.args.b 512 w.if-b-lt512.false)
     ])

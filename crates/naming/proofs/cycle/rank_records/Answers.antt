@@ -2,7 +2,6 @@
 use Prim.Native.Nat.{ℕ, suc, ◌+◌, ◌-◌, ◌≤◌, ◌<◌}
 use native.Mathlib.Omega.{arith}
 use mathlib.Core.Path.{◌≡◌, refl, sym, ◌∙◌, subst}
-use mathlib.Core.Logic.{⊎_elim}
 use lib.ListN.{get_or, set, length-set}
 use Rattle.lists.proofs.Tests.{by-same}
 use Rattle.naming.specs.Naming.{rank_by, Ranked}

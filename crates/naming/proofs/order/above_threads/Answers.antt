@@ -1,8 +1,7 @@
 -- `naming::order::above_threads` meets its contract.
-use Prim.Native.Nat.{ℕ, ◌+◌, ◌≤◌, ◌<◌, ◌-◌}
+use Prim.Native.Nat.{ℕ, ◌+◌, ◌≤◌, ◌<◌}
 use native.Mathlib.Omega.{arith}
 use mathlib.Core.Path.{◌≡◌, refl, sym, ap, ◌∙◌}
-use mathlib.Core.Logic.{⊎_elim}
 use lib.ListN.{get_or}
 use Rattle.naming.specs.Naming as Naming
 use Rattle.naming.proofs.Picked.{above_same, above_more}

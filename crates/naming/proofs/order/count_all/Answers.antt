@@ -1,5 +1,4 @@
 -- `naming::order::count_all` meets its contract.
-use Prim.Native.Nat.{◌-◌}
 use native.Mathlib.Omega.{arith}
 use mathlib.Core.Path.{refl, ◌∙◌}
 use lib.ListN.{get_or, replicate, length-set}
@@ -13,8 +12,7 @@ pub loop-t-preserved : goal.loop-t-preserved
 loop-t-preserved c =
     let t = c.loop-t.t in
     let nexts = c.loop-t.nexts in
-    let lefts = c.loop-t.lefts in
-    (
+    let lefts = c.loop-t.lefts in (
       omega arith,
       length-set nexts t c.next_from-a.result ∙ c.loop-t.invariant.1,
       length-set lefts t c.count_left.result ∙ c.loop-t.invariant.2,

@@ -3,7 +3,6 @@ use Prim.Native.Nat.{ℕ, ◌+◌, ◌-◌}
 use native.Mathlib.Omega.{arith}
 use mathlib.Core.Path.{◌≡◌, refl, sym, ap, ap₂, ◌∙◌}
 use mathlib.Core.Bool.{true, false, not, ◌&&◌, and-false}
-use mathlib.Core.Logic.{⊎_elim}
 use lib.Dec.{eqb}
 use lib.ListN.{get_or}
 use Rattle.rows.specs.Bits.{has}
@@ -41,8 +40,8 @@ loop-b-preserved c =
     let t = c.args.t in
     let b = c.loop-b.b in
     let passed : waits thread n taken t b ≡ false = elim c.else-threads-b.branch [
-      else-threads-b-via-then-threads-b+else-not-test w ↦ ap (λ y. eqb (thread b) t && y) (ap not (sym w.test.ensures ∙ w.if-not-test.false)) ∙ and-false (eqb (thread b) t)
-    | else-threads-b-via-else-threads-b w ↦ ap (λ x. x && not (has taken 0 b)) (ne_eqb (thread b) t w.if-threads-b.false)
+      | else-threads-b-via-then-threads-b+else-not-test w ↦ ap (λ y. eqb (thread b) t && y) (ap not (sym w.test.ensures ∙ w.if-not-test.false)) ∙ and-false (eqb (thread b) t)
+      | else-threads-b-via-else-threads-b w ↦ ap (λ x. x && not (has taken 0 b)) (ne_eqb (thread b) t w.if-threads-b.false)
     ] in
     c.loop-b.invariant ∙ ap (first_of (waits thread n taken t) n) (from_step b n (omega arith)) ∙ first-false (waits thread n taken t) n b (from (b + 1) (n - (b + 1))) passed
 

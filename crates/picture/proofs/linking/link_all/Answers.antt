@@ -1,5 +1,5 @@
 -- `picture::linking::link_all` meets its contract: the edges of the first k records are marked.
-use Prim.Native.Nat.{ℕ, ◌-◌}
+use Prim.Native.Nat.{ℕ}
 use native.Mathlib.Omega.{arith}
 use native.Mathlib.Numerals.{add-one}
 use mathlib.Core.Path.{◌≡◌, refl, sym, ap, ◌∙◌, subst}
@@ -25,8 +25,7 @@ link_record-requires c =
 pub loop-k-preserved : goal.loop-k-preserved
 loop-k-preserved c =
     let a = c.args in
-    let all : List Event = events_in a.threads.now a.kinds.now a.targets.now in
-    (
+    let all : List Event = events_in a.threads.now a.kinds.now a.targets.now in (
       omega arith,
       subst (λ (n : ℕ). Links (held n all a.labels.now) c.link_record.new.work) (sym (add-one c.loop-k.k)) c.link_record.ensures.0,
       c.link_record.ensures.1 ∙ c.loop-k.invariant.2,

@@ -1,5 +1,5 @@
 -- `picture::linking::link_record` meets its contract: after i turns the edges with the first i records are marked.
-use Prim.Native.Nat.{ℕ, suc, ◌-◌}
+use Prim.Native.Nat.{ℕ, suc}
 use native.Mathlib.Omega.{arith}
 use native.Mathlib.Numerals.{add-one}
 use mathlib.Core.Path.{◌≡◌, sym, subst}

@@ -1,5 +1,5 @@
 -- `picture::putting::put_row` meets its contract: the lines of the edges to those below b are put.
-use Prim.Native.Nat.{◌+◌, ◌-◌}
+use Prim.Native.Nat.{◌+◌}
 use native.Mathlib.Omega.{arith}
 use mathlib.Core.Path.{refl, sym, ◌∙◌}
 use Rattle.picture.specs.Putting.{link_line, row_lines}
@@ -17,8 +17,7 @@ put_link-end-requires c = (omega arith, omega arith, omega arith)
 
 pub loop-b-preserved : goal.loop-b-preserved
 loop-b-preserved c =
-    let g = c.args in
-    (
+    let g = c.args in (
       omega arith,
       omega (arith, c.put_link-end.ensures.1),
       c.put_link-end.auto.out ∙ c.loop-b.invariant.2,

@@ -18,8 +18,7 @@ put_row-end-requires c = (omega arith, omega arith, omega arith)
 
 pub loop-a-preserved : goal.loop-a-preserved
 loop-a-preserved c =
-    let g = c.args in
-    (
+    let g = c.args in (
       omega arith,
       omega (arith, c.put_row-end.ensures.1),
       c.put_row-end.auto.out ∙ c.loop-a.invariant.2,

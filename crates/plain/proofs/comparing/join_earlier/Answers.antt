@@ -1,5 +1,5 @@
 -- `plain::comparing::join_earlier` meets its contract: after j turns the first j records have been compared.
-use Prim.Native.Nat.{ℕ, ◌-◌}
+use Prim.Native.Nat.{ℕ}
 use native.Mathlib.Omega.{arith}
 use mathlib.Core.Path.{◌≡◌, refl, ◌∙◌, subst}
 use mathlib.Core.List.{List}

@@ -1,11 +1,10 @@
 -- `proposal::walking::walk` meets its contract: a step for each event.
-use Prim.Native.Nat.{ℕ, ◌+◌, ◌-◌, ◌<◌}
+use Prim.Native.Nat.{ℕ, ◌+◌, ◌<◌}
 use native.Mathlib.Omega.{arith}
 use native.Mathlib.Numerals.{add-one}
 use mathlib.Core.Path.{◌≡◌, refl, sym, ap, ◌∙◌, subst}
 use mathlib.Core.List.{List}
 use lib.ListN.{length, get_or, set, drop, length-set}
-use Rattle.record.specs.declared.Event.{Event}
 use Rattle.rows.proofs.Laws.{length-begun, rest-begun}
 use Rattle.graph.specs.Transactions.{none_yet}
 use Rattle.graph.specs.Held.{past_end}

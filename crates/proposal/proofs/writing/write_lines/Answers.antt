@@ -1,9 +1,8 @@
 -- `proposal::writing::write_lines` meets its contract: two stores for each yield.
-use Prim.Native.Nat.{ℕ, suc, ◌+◌, ◌*◌, ◌-◌, ◌≤◌}
+use Prim.Native.Nat.{ℕ, suc, ◌+◌, ◌*◌, ◌≤◌}
 use native.Mathlib.Omega.{arith}
 use native.Mathlib.Numerals.{add-one}
 use mathlib.Core.Path.{◌≡◌, sym, ap, ◌∙◌, subst, subst₂}
-use mathlib.Core.Logic.{⊎_elim}
 use mathlib.Core.List.{List, [], ◌∷◌}
 use lib.ListN.{length, length-set}
 use Rattle.record.specs.declared.Event.{Event}
@@ -58,12 +57,15 @@ loop-i-preserved c =
     let a = c.args in
     let es : List Event = events a.input.now in
     let next : Told es a.marks.now a.lines.now c.if-marks-i-ne0.lines c.if-marks-i-ne0.yields (suc c.loop-i.i) =
-    elim c.if-marks-i-ne0.branch [ then-marks-i-ne0 w ↦     let room : 2 * c.loop-i.yields + 2 ≤ length c.loop-i.lines = omega (arith, c.loop-i.invariant.1.size, c.loop-i.invariant.1.most, c.loop-i-test.true, c.requires) in
-    subst (λ k. Told es a.marks.now a.lines.now c.if-marks-i-ne0.lines k (suc c.loop-i.i)) (sym (w.yields-is ∙ add-one c.loop-i.yields))
-    (told-marked es a.marks.now a.lines.now c.loop-i.lines c.loop-i.yields c.loop-i.i c.loop-i.invariant.1 c.if-marks-i-ne0.lines w.if-marks-i-ne0.true room
-    (w.lines-is ∙ written-two c.loop-i.lines (2 * c.loop-i.yields) w.event_at-e.result.thread c.loop-i.i room
-    ∙ ap (λ x. written_at c.loop-i.lines (2 * c.loop-i.yields) (x.thread ∷ c.loop-i.i ∷ [])) w.event_at-e.ensures)) | else-marks-i-ne0 w ↦     subst₂ (λ (l : List ℕ) (k : ℕ). Told es a.marks.now a.lines.now l k (suc c.loop-i.i)) (sym w.lines-is) (sym w.yields-is)
-    (told-unmarked es a.marks.now a.lines.now c.loop-i.lines c.loop-i.yields c.loop-i.i c.loop-i.invariant.1 w.if-marks-i-ne0.false) ] in
+    elim c.if-marks-i-ne0.branch [
+      | then-marks-i-ne0 w ↦ let room : 2 * c.loop-i.yields + 2 ≤ length c.loop-i.lines = omega (arith, c.loop-i.invariant.1.size, c.loop-i.invariant.1.most, c.loop-i-test.true, c.requires) in
+          subst (λ k. Told es a.marks.now a.lines.now c.if-marks-i-ne0.lines k (suc c.loop-i.i)) (sym (w.yields-is ∙ add-one c.loop-i.yields))
+          (told-marked es a.marks.now a.lines.now c.loop-i.lines c.loop-i.yields c.loop-i.i c.loop-i.invariant.1 c.if-marks-i-ne0.lines w.if-marks-i-ne0.true room
+          (w.lines-is ∙ written-two c.loop-i.lines (2 * c.loop-i.yields) w.event_at-e.result.thread c.loop-i.i room
+          ∙ ap (λ x. written_at c.loop-i.lines (2 * c.loop-i.yields) (x.thread ∷ c.loop-i.i ∷ [])) w.event_at-e.ensures))
+      | else-marks-i-ne0 w ↦ subst₂ (λ (l : List ℕ) (k : ℕ). Told es a.marks.now a.lines.now l k (suc c.loop-i.i)) (sym w.lines-is) (sym w.yields-is)
+          (told-unmarked es a.marks.now a.lines.now c.loop-i.lines c.loop-i.yields c.loop-i.i c.loop-i.invariant.1 w.if-marks-i-ne0.false)
+    ] in
     (omega arith, subst (Told es a.marks.now a.lines.now c.if-marks-i-ne0.lines c.if-marks-i-ne0.yields) (sym (add-one c.loop-i.i)) next)
 
 pub shape_of-lines : goal.shape_of-lines

@@ -1,8 +1,6 @@
 -- `reasons::searching::search` meets its contract: no pair that was passed makes the edge, and the loops are left at the first that does.
-use Prim.Native.Nat.{◌-◌}
 use native.Mathlib.Omega.{arith}
 use mathlib.Core.Path.{refl, sym, ◌∙◌}
-use mathlib.Core.Logic.{⊎_elim}
 use borrow.Author.Count.{below_more}
 use Rattle.graph.specs.Held.{events_in}
 use Rattle.reasons.proofs.Hits.{hit-is, passed_over, hit-first, hit-none}
@@ -32,15 +30,18 @@ loop-j-preserved c =
 pub search-preserved : goal.search-preserved
 search-preserved c =
     let a = c.args in
-    elim c.if-labels-i.branch [ then-labels-i+else-loop-j-test q ↦ (
-      q.found-is ∙ q.loop-j.invariant.0,
-      omega arith,
-      below_more _ _ c.search.invariant.2 (λ m p r. q.loop-j.invariant.3 m (omega (arith, q.loop-j-test.false)) p),
-    ) | else-labels-i q ↦ (
-      q.found-is ∙ c.search.invariant.0,
-      omega arith,
-      below_more _ _ c.search.invariant.2 (λ m p r. passed_over (events_in a.threads.now a.kinds.now a.targets.now) a.labels.now a.count a.a a.b c.search.i (omega arith) q.if-labels-i.false m),
-    ) ]
+    elim c.if-labels-i.branch [
+      | then-labels-i+else-loop-j-test q ↦ (
+        q.found-is ∙ q.loop-j.invariant.0,
+        omega arith,
+        below_more _ _ c.search.invariant.2 (λ m p r. q.loop-j.invariant.3 m (omega (arith, q.loop-j-test.false)) p),
+      )
+      | else-labels-i q ↦ (
+        q.found-is ∙ c.search.invariant.0,
+        omega arith,
+        below_more _ _ c.search.invariant.2 (λ m p r. passed_over (events_in a.threads.now a.kinds.now a.targets.now) a.labels.now a.count a.a a.b c.search.i (omega arith) q.if-labels-i.false m),
+      )
+    ]
 
 pub returns-after-search : goal.returns-after-search
 returns-after-search c =

@@ -1,5 +1,5 @@
 -- `reasons::telling::write_lines` meets its contract: four stores for each edge.
-use Prim.Native.Nat.{◌+◌, ◌*◌, ◌-◌, ◌<◌, ◌≤◌}
+use Prim.Native.Nat.{◌+◌, ◌*◌, ◌<◌, ◌≤◌}
 use native.Mathlib.Omega.{arith}
 use mathlib.Core.Path.{◌≡◌, ap, ◌∙◌}
 use lib.ListN.{length, length-set}
@@ -49,8 +49,7 @@ bounds-lines-place-in-loop-place-3 c = simp length-set (omega (arith, room (goal
 
 pub loop-place-preserved : goal.loop-place-preserved
 loop-place-preserved c =
-    let a = c.args in
-    (
+    let a = c.args in (
       omega arith,
       told_more (held a.count (events_in a.threads.now a.kinds.now a.targets.now) a.labels.now) a.cycle.now a.lines.now c.loop-place.lines c.loop-place.place (omega arith) c.loop-place.invariant.1
           c.cause_at-cause.result c.name_of.result c.number_of.result c.cause_at-cause.ensures c.name_of.ensures c.number_of.ensures,

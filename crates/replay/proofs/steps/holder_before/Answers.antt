@@ -1,7 +1,5 @@
 -- `replay::steps::holder_before` meets its contract. Assumes nothing.
-use mathlib.Core.Logic.{⊎_elim, inl, inr}
-use native.Mathlib.Omega.{arith}
-use borrow.Author.Tests.{ne_eqb}
+use mathlib.Core.Logic.{⊎_elim}
 use Rattle.replay.proofs.steps.holder_before.Goals as goal
 
 pub returns-in-3 : goal.returns-in-3

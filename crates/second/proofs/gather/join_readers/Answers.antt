@@ -1,8 +1,7 @@
 -- `second::gather::join_readers` meets its contract: the readers of the first t threads have come in.
-use Prim.Native.Nat.{ℕ, ◌-◌}
+use Prim.Native.Nat.{ℕ}
 use native.Mathlib.Omega.{arith}
 use mathlib.Core.Path.{◌≡◌, refl, sym, ap, ◌∙◌, subst}
-use mathlib.Core.Logic.{⊎_elim}
 use lib.ListN.{length}
 use Rattle.ancestors.specs.Others.{others}
 use Rattle.ancestors.specs.Sources.{Joins}
@@ -24,8 +23,11 @@ loop-t-preserved c =
     let other = c.is_other.ensures in (
       omega arith,
       elim c.if-is_other.branch [ then-is_other w ↦ ap length w.work-is ∙ w.join_source.auto.work ∙ c.loop-t.invariant.1 | else-is_other w ↦ ap length w.work-is ∙ c.loop-t.invariant.1 ],
-      elim c.if-is_other.branch [ then-is_other w ↦ readers-join a.work.now a.a a.readers.now a.x c.loop-t.t c.loop-t.code c.loop-t.work c.loop-t.invariant.2 c.if-is_other.work w.join_source.result c.if-is_other.code (sym other ∙ w.if-is_other.true)
-          (subst (λ l. Joins c.loop-t.work a.a _ w.join_source.result l) (sym w.work-is) w.join_source.ensures) (w.code-is ∙ w.more-code.ensures) | else-is_other w ↦ readers-skip a.work.now a.a a.readers.now a.x c.loop-t.t c.loop-t.code c.loop-t.work c.loop-t.invariant.2 c.if-is_other.work c.if-is_other.code (sym other ∙ w.if-is_other.false) w.work-is w.code-is ],
+      elim c.if-is_other.branch [
+        | then-is_other w ↦ readers-join a.work.now a.a a.readers.now a.x c.loop-t.t c.loop-t.code c.loop-t.work c.loop-t.invariant.2 c.if-is_other.work w.join_source.result c.if-is_other.code (sym other ∙ w.if-is_other.true)
+            (subst (λ l. Joins c.loop-t.work a.a _ w.join_source.result l) (sym w.work-is) w.join_source.ensures) (w.code-is ∙ w.more-code.ensures)
+        | else-is_other w ↦ readers-skip a.work.now a.a a.readers.now a.x c.loop-t.t c.loop-t.code c.loop-t.work c.loop-t.invariant.2 c.if-is_other.work c.if-is_other.code (sym other ∙ w.if-is_other.false) w.work-is w.code-is
+      ],
     )
 
 pub shape_of-work : goal.shape_of-work

@@ -14,8 +14,7 @@ pub returns-in-2 : goal.returns-in-2
 returns-in-2 c =
     let a = c.args in
     let s : Cells = cells_of a.locks.now a.threads.now a.writers.now a.readers.now in
-    let k = c.in-2.is in
-    (
+    let k = c.in-2.is in (
       joins-asked s a.work.now _ a.a a.kind a.target c.take_write.result (Key.writer a.target ∷ readers_of a.target) (asked-write a.kind a.target k)
           (subst (λ (l : List ℕ). Joins a.work.now a.a (others a.a (get_or a.writers.now a.target 0 ∷ l)) c.take_write.result c.take_write.new.work) (sym (readers-are s a.target)) c.take_write.ensures.0),
       store-write _ _ _ _ _ _ _ _ _ k c.take_write.ensures.1,
@@ -49,8 +48,7 @@ returns-in-0-to-1 c =
 pub returns-in-3-to-7 : goal.returns-in-3-to-7
 returns-in-3-to-7 c =
     let a = c.args in
-    let s : Cells = cells_of a.locks.now a.threads.now a.writers.now a.readers.now in
-    (
+    let s : Cells = cells_of a.locks.now a.threads.now a.writers.now a.readers.now in (
       joins-asked s a.work.now _ a.a a.kind a.target _ (Key.lock a.target ∷ []) (asked-lock a.kind a.target (omega arith) (omega arith)) c.take_lock.ensures.0,
       store-lock _ _ _ _ _ _ _ _ _ (omega arith) (omega arith) c.take_lock.ensures.1,
     )

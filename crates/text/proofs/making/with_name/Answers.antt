@@ -1,5 +1,5 @@
 -- `text::with_name` meets its contract: the first j letters stand after the line.
-use Prim.Native.Nat.{◌-◌, ◌<◌}
+use Prim.Native.Nat.{◌<◌}
 use native.Mathlib.Omega.{arith}
 use mathlib.Core.Path.{sym, ap}
 use mathlib.Core.List.{[], ◌∷◌}
@@ -28,8 +28,7 @@ with_byte-longer-requires c =
 pub loop-j-preserved : goal.loop-j-preserved
 loop-j-preserved c =
     let a = c.args in
-    let l : c.loop-j.j < length (name a.kind) = omega arith in
-    (
+    let l : c.loop-j.j < length (name a.kind) = omega arith in (
       omega arith,
       longer-as a.line c.with_byte-longer.result (sym (take-one-more (name a.kind) c.loop-j.j 0 l))
           (longer-both a.line c.loop-j.longer c.with_byte-longer.result c.loop-j.invariant.1 (longer-as c.loop-j.longer c.with_byte-longer.result (ap (λ b. b ∷ []) c.letter.ensures) c.with_byte-longer.ensures)),

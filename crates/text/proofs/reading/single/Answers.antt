@@ -1,5 +1,4 @@
 -- `text::single` meets its contract: one word.
-use Prim.Native.Nat.{◌-◌}
 use native.Mathlib.Omega.{arith}
 use mathlib.Core.Path.{sym, ap, ◌∙◌}
 use Rattle.record.specs.declared.Decoded.TheVariants.{Good}

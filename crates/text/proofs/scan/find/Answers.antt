@@ -1,5 +1,4 @@
 -- `text::find` meets its contract: no byte before i is c.
-use Prim.Native.Nat.{◌-◌}
 use native.Mathlib.Omega.{arith}
 use Rattle.text.proofs.Scans.{before_here, before_on, before-end}
 use Rattle.text.proofs.scan.find.Goals as goal

@@ -1,5 +1,4 @@
 -- `text::is_name` meets its contract: of one size, and the same at every place before j.
-use Prim.Native.Nat.{◌-◌}
 use native.Mathlib.Omega.{arith}
 use mathlib.Core.Path.{◌≡◌, refl, sym, ◌∙◌}
 use lib.ListN.{length}

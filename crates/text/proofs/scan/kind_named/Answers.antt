@@ -1,5 +1,4 @@
 -- `text::kind_named` meets its contract: the word is no name of a kind below `kind`.
-use Prim.Native.Nat.{◌-◌}
 use native.Mathlib.Omega.{arith}
 use mathlib.Core.Path.{refl, sym, ◌∙◌}
 use Rattle.text.specs.Line.{kind_named}

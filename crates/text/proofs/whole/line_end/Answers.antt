@@ -1,5 +1,4 @@
 -- `text::line_end` meets its contract: past the first line feed, or the end of the text.
-use Prim.Native.Nat.{◌-◌}
 use native.Mathlib.Omega.{arith}
 use mathlib.Core.Path.{ap, ◌∙◌}
 use Rattle.text.specs.Steps.{before}

@@ -1,7 +1,6 @@
 -- `text::line_feeds` meets its contract: n line feeds stand before i.
-use Prim.Native.Nat.{ℕ, ◌-◌}
+use Prim.Native.Nat.{ℕ}
 use native.Mathlib.Omega.{arith}
-use mathlib.Core.Logic.{⊎_elim}
 use mathlib.Core.List.{List}
 use Rattle.text.proofs.Wholes.{feeds-here, feeds-other, feeds-end}
 use Rattle.text.proofs.whole.line_feeds.Goals.{else-text-i-eq10, then-text-i-eq10}
