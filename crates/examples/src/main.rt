@@ -8,7 +8,7 @@ use checker::Answer;
 use std::io;
 
 // Judges the first n bytes, over an output and a work area that hold something else, and prints all that is left.
-fn run(rt: &impl Print, name: &str, input: &[u8], n: usize) -> io::Result<()> {
+fn run(rt: &impl Print, name: &[u8], input: &[u8], n: usize) -> io::Result<()> {
     let mut out = [0xeeu8; 8200];
     let mut work = [0x77u64; 4097];
     if input.len() < n {
@@ -20,13 +20,13 @@ fn run(rt: &impl Print, name: &str, input: &[u8], n: usize) -> io::Result<()> {
             records,
             transactions,
         } => {
-            printing::print_answer(rt, "cooperable", records, transactions)?;
+            printing::print_answer(rt, b"cooperable", records, transactions)?;
         }
         Answer::Violation { record, length } => {
-            printing::print_answer(rt, "violation", record, length)?;
+            printing::print_answer(rt, b"violation", record, length)?;
         }
         Answer::Refused(refusal) => {
-            printing::print_answer(rt, "refused", refusal.number as usize, refusal.place)?;
+            printing::print_answer(rt, b"refused", refusal.number as usize, refusal.place)?;
         }
     }
     printing::print_out(rt, &out)?;
@@ -35,40 +35,40 @@ fn run(rt: &impl Print, name: &str, input: &[u8], n: usize) -> io::Result<()> {
 
 fn main(rt: HostRuntime) -> io::Result<()> {
     let mut input = [0u8; 8200];
-    run(&rt, "P1", &input, 0)?;
+    run(&rt, b"P1", &input, 0)?;
     let mut n = recordings::p2(&mut input);
-    run(&rt, "P2", &input, n)?;
+    run(&rt, b"P2", &input, n)?;
     n = recordings::p3(&mut input);
-    run(&rt, "P3", &input, n)?;
+    run(&rt, b"P3", &input, n)?;
     n = recordings::p4(&mut input);
-    run(&rt, "P4", &input, n)?;
+    run(&rt, b"P4", &input, n)?;
     n = recordings::p5(&mut input);
-    run(&rt, "P5", &input, n)?;
+    run(&rt, b"P5", &input, n)?;
     n = recordings::p6(&mut input);
-    run(&rt, "P6", &input, n)?;
+    run(&rt, b"P6", &input, n)?;
     n = recordings::p7(&mut input);
-    run(&rt, "P7", &input, n)?;
+    run(&rt, b"P7", &input, n)?;
     n = recordings::p8(&mut input);
-    run(&rt, "P8", &input, n)?;
+    run(&rt, b"P8", &input, n)?;
     n = recordings::p9(&mut input);
-    run(&rt, "P9", &input, n)?;
+    run(&rt, b"P9", &input, n)?;
     n = recordings::p10(&mut input);
-    run(&rt, "P10", &input, n)?;
+    run(&rt, b"P10", &input, n)?;
     n = recordings::p11(&mut input);
-    run(&rt, "P11", &input, n)?;
+    run(&rt, b"P11", &input, n)?;
     others(&rt)
 }
 
 // The examples besides P1 to P11.
 fn others(rt: &impl Print) -> io::Result<()> {
     let mut input = [0u8; 8200];
-    run(rt, "7 bytes", &input, 7)?;
-    run(rt, "8,193 bytes", &input, 8193)?;
-    run(rt, "8,200 bytes", &input, 8200)?;
+    run(rt, b"7 bytes", &input, 7)?;
+    run(rt, b"8,193 bytes", &input, 8193)?;
+    run(rt, b"8,200 bytes", &input, 8200)?;
     let mut n = recordings::yields(&mut input, 1024);
-    run(rt, "1,024 yields", &input, n)?;
+    run(rt, b"1,024 yields", &input, n)?;
     n = recordings::yields(&mut input, 512);
-    run(rt, "512 yields", &input, n)?;
+    run(rt, b"512 yields", &input, n)?;
     n = recordings::thread_16(&mut input);
-    run(rt, "thread 16", &input, n)
+    run(rt, b"thread 16", &input, n)
 }

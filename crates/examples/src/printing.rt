@@ -4,13 +4,15 @@ ghost use Rattle.std.specs.Prelude.{◌≤◌, length};
 use std::io;
 
 // A word on a line of its own.
-pub fn print_word(rt: &impl Print, word: &str) -> io::Result<()> {
-    println!(rt; "{word}")
+pub fn print_word(rt: &impl Print, word: &[u8]) -> io::Result<()> {
+    rt.write_all(word)?;
+    println!(rt)
 }
 
 // A word and two numbers.
-pub fn print_answer(rt: &impl Print, word: &str, first: usize, second: usize) -> io::Result<()> {
-    println!(rt; "{word} {first} {second}")
+pub fn print_answer(rt: &impl Print, word: &[u8], first: usize, second: usize) -> io::Result<()> {
+    rt.write_all(word)?;
+    println!(rt; " {first} {second}")
 }
 
 // Where the bytes that are not 0xEE end.
@@ -67,5 +69,5 @@ fn count_of(work: &[u64], n: u64) -> usize {
 
 // How many numbers of the work area are 0, and how many are still 0x77.
 pub fn print_work(rt: &impl Print, work: &[u64]) -> io::Result<()> {
-    print_answer(rt, "work", count_of(work, 0), count_of(work, 0x77))
+    print_answer(rt, b"work", count_of(work, 0), count_of(work, 0x77))
 }

@@ -10,19 +10,19 @@ use std::io::Write;
 use std::rt::{Env, Files};
 
 // Two numbers, and the line's end.
-fn print_two(rt: &impl Print, first: usize, second: usize) -> io::Result<()> {
+fn print_two(rt: &impl Print, first: u64, second: u64) -> io::Result<()> {
     println!(rt; "{first} {second}")
 }
 
 // The first line: a word and two numbers.
 fn print_first(rt: &impl Print, word: &str, first: usize, second: usize) -> io::Result<()> {
     print!(rt; "{word} ")?;
-    print_two(rt, first, second)
+    print_two(rt, first as u64, second as u64)
 }
 
 // A yield's line: its thread, and the input record that it stands before.
 fn print_line(rt: &impl Print, thread: u16, record: u16) -> io::Result<()> {
-    print_two(rt, thread as usize, record as usize)
+    print_two(rt, thread as u64, record as u64)
 }
 
 // The first `size` lines, of two numbers each.
