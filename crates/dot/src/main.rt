@@ -2,39 +2,36 @@
 // A refusal is the line `refused NUMBER RECORD`.
 #![tactic(auto)]
 
-use libc::{STDIN_FILENO, STDOUT_FILENO};
 use picture::Drawn;
 use record::Refusal;
+use std::io;
 
-fn print_refusal(refusal: Refusal) {
-    io::write_all(STDOUT_FILENO, b"refused ");
-    io::print_decimal(STDOUT_FILENO, refusal.number as u64);
-    io::write_all(STDOUT_FILENO, b" ");
-    io::print_decimal(STDOUT_FILENO, refusal.place as u64);
-    io::write_all(STDOUT_FILENO, b"\n");
+fn print_refusal(rt: &impl Print, refusal: Refusal) -> io::Result<()> {
+    println!(rt; "refused {} {}", refusal.number, refusal.place)
 }
 
 // Draws into an output and prints what is there.
-fn show(input: &[u8], out: &mut [u8]) {
+fn show(rt: &impl Print, input: &[u8], out: &mut [u8]) -> io::Result<()> {
     let mut work = [0u64; 4096];
     match picture::draw(input, out, &mut work) {
         Drawn::Written { bytes } => {
             if bytes <= out.len() {
-                io::write_all(STDOUT_FILENO, &out[..bytes]);
+                rt.write_all(&out[..bytes])?;
             }
         }
-        Drawn::Refused(refusal) => print_refusal(refusal),
+        Drawn::Refused(refusal) => print_refusal(rt, refusal)?,
     }
+    Ok(())
 }
 
 // The output has room for every picture, so 3 is never given.
-fn show_all(input: &[u8]) {
+fn show_all(rt: &impl Print, input: &[u8]) -> io::Result<()> {
     let mut out = [0u8; 3148300];
-    show(input, &mut out);
+    show(rt, input, &mut out)
 }
 
-fn main() {
+fn main(rt: HostRuntime) -> io::Result<()> {
     let mut input = [0u8; 8200];
-    let n = io::read_full(STDIN_FILENO, &mut input);
-    show_all(&input[..n]);
+    let n = reading::read_full(&mut rt.stdin(), &mut input)?;
+    show_all(&rt, &input[..n])
 }

@@ -5,69 +5,70 @@ mod printing;
 mod recordings;
 
 use checker::Answer;
+use std::io;
 
 // Judges the first n bytes, over an output and a work area that hold something else, and prints all that is left.
-fn run(name: &[u8], input: &[u8], n: usize) {
+fn run(rt: &impl Print, name: &[u8], input: &[u8], n: usize) -> io::Result<()> {
     let mut out = [0xeeu8; 8200];
     let mut work = [0x77u64; 4097];
     if input.len() < n {
-        return;
+        return Ok(());
     }
-    printing::print_word(name);
+    printing::print_word(rt, name)?;
     match checker::judge(&input[..n], &mut out, &mut work) {
         Answer::Cooperable {
             records,
             transactions,
         } => {
-            printing::print_answer(b"cooperable", records, transactions);
+            printing::print_answer(rt, b"cooperable", records, transactions)?;
         }
         Answer::Violation { record, length } => {
-            printing::print_answer(b"violation", record, length);
+            printing::print_answer(rt, b"violation", record, length)?;
         }
         Answer::Refused(refusal) => {
-            printing::print_answer(b"refused", refusal.number as usize, refusal.place);
+            printing::print_answer(rt, b"refused", refusal.number as usize, refusal.place)?;
         }
     }
-    printing::print_out(&out);
-    printing::print_work(&work);
+    printing::print_out(rt, &out)?;
+    printing::print_work(rt, &work)
 }
 
-fn main() {
+fn main(rt: HostRuntime) -> io::Result<()> {
     let mut input = [0u8; 8200];
-    run(b"P1", &input, 0);
+    run(&rt, b"P1", &input, 0)?;
     let mut n = recordings::p2(&mut input);
-    run(b"P2", &input, n);
+    run(&rt, b"P2", &input, n)?;
     n = recordings::p3(&mut input);
-    run(b"P3", &input, n);
+    run(&rt, b"P3", &input, n)?;
     n = recordings::p4(&mut input);
-    run(b"P4", &input, n);
+    run(&rt, b"P4", &input, n)?;
     n = recordings::p5(&mut input);
-    run(b"P5", &input, n);
+    run(&rt, b"P5", &input, n)?;
     n = recordings::p6(&mut input);
-    run(b"P6", &input, n);
+    run(&rt, b"P6", &input, n)?;
     n = recordings::p7(&mut input);
-    run(b"P7", &input, n);
+    run(&rt, b"P7", &input, n)?;
     n = recordings::p8(&mut input);
-    run(b"P8", &input, n);
+    run(&rt, b"P8", &input, n)?;
     n = recordings::p9(&mut input);
-    run(b"P9", &input, n);
+    run(&rt, b"P9", &input, n)?;
     n = recordings::p10(&mut input);
-    run(b"P10", &input, n);
+    run(&rt, b"P10", &input, n)?;
     n = recordings::p11(&mut input);
-    run(b"P11", &input, n);
-    others();
+    run(&rt, b"P11", &input, n)?;
+    others(&rt)
 }
 
 // The examples besides P1 to P11.
-fn others() {
+fn others(rt: &impl Print) -> io::Result<()> {
     let mut input = [0u8; 8200];
-    run(b"7 bytes", &input, 7);
-    run(b"8,193 bytes", &input, 8193);
-    run(b"8,200 bytes", &input, 8200);
+    run(rt, b"7 bytes", &input, 7)?;
+    run(rt, b"8,193 bytes", &input, 8193)?;
+    run(rt, b"8,200 bytes", &input, 8200)?;
     let mut n = recordings::yields(&mut input, 1024);
-    run(b"1,024 yields", &input, n);
+    run(rt, b"1,024 yields", &input, n)?;
     n = recordings::yields(&mut input, 512);
-    run(b"512 yields", &input, n);
+    run(rt, b"512 yields", &input, n)?;
     n = recordings::thread_16(&mut input);
-    run(b"thread 16", &input, n);
+    run(rt, b"thread 16", &input, n)
 }

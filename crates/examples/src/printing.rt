@@ -1,34 +1,18 @@
 // Plain lines on standard output.
 ghost use Rattle.std.specs.Prelude.{◌≤◌, length};
 
-use libc::STDOUT_FILENO;
-
-fn number(n: u64) {
-    io::print_decimal(STDOUT_FILENO, n);
-}
-
-fn space() {
-    io::write_all(STDOUT_FILENO, b" ");
-}
-
-fn line_end() {
-    io::write_all(STDOUT_FILENO, b"\n");
-}
+use std::io;
 
 // A word on a line of its own.
-pub fn print_word(word: &[u8]) {
-    io::write_all(STDOUT_FILENO, word);
-    line_end();
+pub fn print_word(rt: &impl Print, word: &[u8]) -> io::Result<()> {
+    rt.write_all(word)?;
+    println!(rt)
 }
 
 // A word and two numbers.
-pub fn print_answer(word: &[u8], first: usize, second: usize) {
-    io::write_all(STDOUT_FILENO, word);
-    space();
-    number(first as u64);
-    space();
-    number(second as u64);
-    line_end();
+pub fn print_answer(rt: &impl Print, word: &[u8], first: usize, second: usize) -> io::Result<()> {
+    rt.write_all(word)?;
+    println!(rt; " {first} {second}")
 }
 
 // Where the bytes that are not 0xEE end.
@@ -46,26 +30,28 @@ fn written_end(out: &[u8]) -> usize
 }
 
 // Byte i, eight to a line.
-fn print_byte(i: usize, byte: u8) {
+fn print_byte(rt: &impl Print, i: usize, byte: u8) -> io::Result<()> {
     if i % 8 != 0 {
-        space();
+        print!(rt; " {byte}")
     } else if 0 < i {
-        line_end();
+        print!(rt; "\n{byte}")
+    } else {
+        print!(rt; "{byte}")
     }
-    number(byte as u64);
 }
 
 // All bytes up to the last that is not 0xEE.
-pub fn print_out(out: &[u8]) {
+pub fn print_out(rt: &impl Print, out: &[u8]) -> io::Result<()> {
     let end = written_end(out);
     let mut i = 0;
     while i < end {
-        print_byte(i, out[i]);
+        print_byte(rt, i, out[i])?;
         i += 1;
     }
     if 0 < end {
-        line_end();
+        println!(rt)?;
     }
+    Ok(())
 }
 
 // How many numbers of the work area are n.
@@ -82,6 +68,6 @@ fn count_of(work: &[u64], n: u64) -> usize {
 }
 
 // How many numbers of the work area are 0, and how many are still 0x77.
-pub fn print_work(work: &[u64]) {
-    print_answer(b"work", count_of(work, 0), count_of(work, 0x77));
+pub fn print_work(rt: &impl Print, work: &[u64]) -> io::Result<()> {
+    print_answer(rt, b"work", count_of(work, 0), count_of(work, 0x77))
 }

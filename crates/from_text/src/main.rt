@@ -3,70 +3,68 @@
 // all the input is refused 2. Otherwise the first part tells the answer of the whole (text/proofs/Right, `long-text`).
 #![tactic(auto)]
 
-use libc::{STDIN_FILENO, STDOUT_FILENO};
 use record::Refusal;
+use std::io;
+use std::io::Read;
 use text::Outcome;
 
-fn print_refusal(refusal: Refusal) {
-    io::write_all(STDOUT_FILENO, b"refused ");
-    io::print_decimal(STDOUT_FILENO, refusal.number as u64);
-    io::write_all(STDOUT_FILENO, b" ");
-    io::print_decimal(STDOUT_FILENO, refusal.place as u64);
-    io::write_all(STDOUT_FILENO, b"\n");
+fn print_refusal(rt: &impl Print, refusal: Refusal) -> io::Result<()> {
+    println!(rt; "refused {} {}", refusal.number, refusal.place)
 }
 
-// A piece of standard input: how many bytes it has, and how many of them are line feeds.
+// A piece of the input: how many bytes it has, and how many of them are line feeds.
 #[derive(Clone, Copy)]
 struct Piece {
     bytes: usize,
     feeds: usize,
 }
 
-fn next_piece() -> Piece {
+fn next_piece(reader: &mut impl Read) -> io::Result<Piece> {
     let mut piece = [0u8; 32768];
-    let bytes = io::read_full(STDIN_FILENO, &mut piece);
+    let bytes = reading::read_full(reader, &mut piece)?;
     let feeds = text::line_feeds(&piece[..bytes]);
-    Piece { bytes, feeds }
+    Ok(Piece { bytes, feeds })
 }
 
-// Whether the rest of standard input has over `most` line feeds. A proved loop has to end, so it counts its turns down, from
-// a number that no run uses up.
-fn rest_has_over(most: usize) -> bool {
+// Whether the rest of the input has over `most` line feeds. A proved loop has to end, so it has a number of turns that no
+// run uses up.
+fn rest_has_over(reader: &mut impl Read, most: usize) -> io::Result<bool> {
     let mut left = most;
-    let mut turns = u64::MAX;
-    while turns > 0 {
-        let piece = next_piece();
+    for _ in 0..u64::MAX {
+        let piece = next_piece(reader)?;
         if left < piece.feeds {
-            return true;
+            return Ok(true);
         }
         if piece.bytes == 0 {
-            return false;
+            return Ok(false);
         }
         left -= piece.feeds;
-        turns -= 1;
     }
-    false
+    Ok(false)
 }
 
-fn main() {
+fn main(rt: HostRuntime) -> io::Result<()> {
+    let mut reader = rt.stdin();
     let mut input = [0u8; 32768];
     let mut out = [0u8; 8192];
-    let n = io::read_full(STDIN_FILENO, &mut input);
+    let n = reading::read_full(&mut reader, &mut input)?;
     let feeds = text::line_feeds(&input[..n]);
-    if n == 32768 && feeds <= 1024 && rest_has_over(1024 - feeds) {
-        print_refusal(Refusal {
-            number: 2,
-            place: 0,
-        });
-        return;
+    if n == 32768 && feeds <= 1024 && rest_has_over(&mut reader, 1024 - feeds)? {
+        return print_refusal(
+            &rt,
+            Refusal {
+                number: 2,
+                place: 0,
+            },
+        );
     }
     match text::read_text(&input[..n], &mut out) {
         Outcome::Done { bytes } => {
             if bytes <= 8192 {
-                let written = io::count(bytes as isize, &out);
-                io::write_all(STDOUT_FILENO, &out[..written]);
+                rt.write_all(&out[..bytes])?;
             }
         }
-        Outcome::Refused(refusal) => print_refusal(refusal),
+        Outcome::Refused(refusal) => print_refusal(&rt, refusal)?,
     }
+    Ok(())
 }

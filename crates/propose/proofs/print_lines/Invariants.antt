@@ -1,9 +1,9 @@
 -- `propose::print_lines` reads only what is there.
-use Prim.Native.Nat.{◌-◌, ◌≤◌}
+use Rattle.std.proofs.Common.{◌-◌, ◌≤◌}
 use Rattle.propose.proofs.print_lines.Given as goal
 
 abbrev pub invariant-loop-place : goal.invariant-loop-place
-invariant-loop-place l = l.place ≤ 1024
+invariant-loop-place g l = l.place ≤ 1024
 
 abbrev pub decreases-loop-place : goal.decreases-loop-place
-decreases-loop-place l = l.size - l.place
+decreases-loop-place g l = l.size - l.place

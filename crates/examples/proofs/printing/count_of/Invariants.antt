@@ -1,6 +1,5 @@
 -- `examples::printing::count_of` counts no more than it has passed.
-use Prim.Native.Nat.{◌≤◌, ◌-◌}
-use lib.ListN.{length}
+use Rattle.std.proofs.Common.{◌-◌, ◌≤◌, length}
 use Rattle.examples.proofs.printing.count_of.Given as goal
 
 abbrev pub invariant-loop-i : goal.invariant-loop-i

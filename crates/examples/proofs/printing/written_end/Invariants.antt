@@ -1,6 +1,5 @@
 -- `examples::printing::written_end` stays within the output.
-use Prim.Native.Nat.{◌≤◌}
-use lib.ListN.{length}
+use Rattle.std.proofs.Common.{◌≤◌, length}
 use Rattle.examples.proofs.printing.written_end.Given as goal
 
 abbrev pub invariant-loop-n : goal.invariant-loop-n

@@ -1,5 +1,5 @@
 -- `examples::recordings::append` meets what it asks: a record is at most 8 bytes.
-use native.Mathlib.Omega.{arith}
+use Rattle.std.proofs.Common.{arith}
 use Rattle.record.proofs.Laws.{size-most}
 use Rattle.examples.proofs.recordings.append.Goals as goal
 
