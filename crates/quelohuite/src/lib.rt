@@ -115,12 +115,7 @@ fn in_five(told: reasons::Told) -> ToldWhy
 }
 
 // Judges a recording and tells why the edge at a place of the reported cycle is there; the output and the work area end as after judging.
-pub fn quelohuite_why(
-    input: &[u8],
-    out: &mut [u8],
-    work: &mut [u64],
-    place: usize,
-) -> ToldWhy
+pub fn quelohuite_why(input: &[u8], out: &mut [u8], work: &mut [u64], place: usize) -> ToldWhy
     ensures { let told = Why.asked input.now out.old work.old place in
         (told_why result ≡ in_five told.answer) × (out.new ≡ told.out) × (work.new ≡ told.work) }
 {
