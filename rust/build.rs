@@ -1,5 +1,6 @@
 //! On x86-64 the archive of the proved checker is linked. On another processor a small server over
-//! it is built by the kit's own compiler and linker, to be run under the kit's emulator.
+//! it is built by the kit's own compiler and linker, which that machine must then run by an emulator,
+//! as it runs the server.
 
 use std::path::{Path, PathBuf};
 use std::process::Command;
@@ -13,9 +14,7 @@ fn main() {
     println!("cargo:rerun-if-changed=server.c");
     println!("cargo:rustc-check-cfg=cfg(linked)");
     if !archive.exists() {
-        panic!(
-            "target/staticlib/libquelohuite.a is not there: make it by `rt staticlib quelohuite`"
-        );
+        panic!("target/staticlib/libquelohuite.a is not there: make it by `tools/build`");
     }
     if variable("CARGO_CFG_TARGET_ARCH") == "x86_64" {
         println!("cargo:rustc-link-search=native={}", archives.display());
@@ -30,12 +29,11 @@ fn variable(name: &str) -> String {
     std::env::var(name).unwrap_or_else(|_| panic!("cargo sets {name}"))
 }
 
-/// The part of the kit that is for this machine: `rt doc` names a page two folders below its root.
+/// The kit's folder: `rt doc` names a page in it.
 fn kit() -> PathBuf {
     let said = Command::new("rt").arg("doc").output().expect("rt is not on the path").stdout;
     let page = PathBuf::from(String::from_utf8(said).expect("a path").trim());
-    let root = page.parent().and_then(Path::parent).expect("a page in the kit's docs");
-    root.join("on").join(std::env::consts::ARCH)
+    page.parent().expect("a page in the kit").to_path_buf()
 }
 
 fn build_server(here: &Path, archive: &Path) {

@@ -42,12 +42,11 @@ impl Program {
         Program::find("propose", |input| reference::propose::report(input).text)
     }
 
-    /// Finds the program in target/bin and a way to run it: by itself, by the kit's loader, or, on
-    /// a processor other than x86-64, by the kit's emulator.
+    /// Finds the program in target/bin and a way to run it: by itself, or by the kit's loader.
     fn find(name: &'static str, expected: Expected) -> Result<Program, String> {
         let path = Path::new(env!("CARGO_MANIFEST_DIR")).join("../target/bin").join(name);
         if !path.exists() {
-            return Err(format!("target/bin/{name} is not there: make it by `rt check {name}`"));
+            return Err(format!("target/bin/{name} is not there: make it by `tools/build`"));
         }
         let by_itself = Program { name, words: vec![path.clone()], expected };
         if by_itself.starts() {
@@ -133,19 +132,10 @@ pub fn shown(bytes: &[u8]) -> String {
     format!("{text}  ({} bytes in all)\n", bytes.len())
 }
 
-/// The kit is found from `rt doc`, which names a page two folders below its root.
+/// The kit is found from `rt doc`, which names a page in its folder.
 fn words_of_the_kit(program: PathBuf) -> Result<Vec<PathBuf>, String> {
     let said = Command::new("rt").arg("doc").output().map_err(|e| format!("rt doc: {e}"))?;
     let page = PathBuf::from(String::from_utf8_lossy(&said.stdout).trim().to_string());
-    let root = page.parent().and_then(Path::parent).ok_or("rt doc names no page of the kit")?;
-    let toolchain = root.join("on").join(std::env::consts::ARCH).join("toolchain");
-    let mut words = Vec::new();
-    if std::env::consts::ARCH != "x86_64" {
-        words.push(toolchain.join("bin/qemu-x86_64"));
-    }
-    words.push(toolchain.join("lib/ld-linux-x86-64.so.2"));
-    words.push("--library-path".into());
-    words.push(toolchain.join("lib"));
-    words.push(program);
-    Ok(words)
+    let lib = page.parent().ok_or("rt doc names no page of the kit")?.join("toolchain/lib");
+    Ok(vec![lib.join("ld-linux-x86-64.so.2"), "--library-path".into(), lib, program])
 }

@@ -268,7 +268,7 @@ mod library {
     use std::io::{self, Read, Write};
     use std::process::{Child, Command, Stdio};
 
-    /// A server over the library, under the emulator.
+    /// A server over the library, under the machine's emulator.
     struct Server(Child);
 
     thread_local! {
@@ -278,14 +278,13 @@ mod library {
     impl Server {
         fn start() -> Server {
             let toolchain = env!("QUELOHUITE_TOOLCHAIN");
-            let child = Command::new(format!("{toolchain}/bin/qemu-x86_64"))
-                .arg(format!("{toolchain}/lib/ld-linux-x86-64.so.2"))
+            let child = Command::new(format!("{toolchain}/lib/ld-linux-x86-64.so.2"))
                 .args(["--library-path", &format!("{toolchain}/lib")])
                 .arg(env!("QUELOHUITE_SERVER"))
                 .stdin(Stdio::piped())
                 .stdout(Stdio::piped())
                 .spawn();
-            Server(child.expect("the kit's emulator starts"))
+            Server(child.expect("the machine runs x86-64 programs"))
         }
 
         fn ask(

@@ -1,5 +1,5 @@
-// The checker for C and Rust: exported functions over `checker::judge`, `checker::judge_plain`, `reasons::why`,
-// `picture::draw` and `proposal::propose`, each with its whole promise.
+// The checker for C and Rust: `checker::judge`, `checker::judge_plain`, `reasons::why`, `picture::draw` and `proposal::propose`, each with its
+// answer in numbers and its whole promise. quelohuite_c exports them.
 #![tactic(auto)]
 
 ghost use Rattle.std.specs.Prelude.{◌≡◌, [], ◌∷◌};
@@ -51,8 +51,7 @@ fn in_numbers(a: Answer) -> Told
 }
 
 // Judges a recording by the second engine: the answer in numbers, and the output and the work area at the end.
-#[unsafe(no_mangle)]
-pub extern "C" fn quelohuite_judge(input: &[u8], out: &mut [u8], work: &mut [u64]) -> Told
+pub fn quelohuite_judge(input: &[u8], out: &mut [u8], work: &mut [u64]) -> Told
     ensures { ◌≡◌ {A = Ending} (record { answer = told result; out = out.new; work = work.new })
         (judged input.now out.old work.old) }
 {
@@ -61,8 +60,7 @@ pub extern "C" fn quelohuite_judge(input: &[u8], out: &mut [u8], work: &mut [u64
 }
 
 // The same by the plain engine, to be held against it.
-#[unsafe(no_mangle)]
-pub extern "C" fn quelohuite_judge_plain(input: &[u8], out: &mut [u8], work: &mut [u64]) -> Told
+pub fn quelohuite_judge_plain(input: &[u8], out: &mut [u8], work: &mut [u64]) -> Told
     ensures { ◌≡◌ {A = Ending} (record { answer = told result; out = out.new; work = work.new })
         (judged input.now out.old work.old) }
 {
@@ -117,13 +115,7 @@ fn in_five(told: reasons::Told) -> ToldWhy
 }
 
 // Judges a recording and tells why the edge at a place of the reported cycle is there; the output and the work area end as after judging.
-#[unsafe(no_mangle)]
-pub extern "C" fn quelohuite_why(
-    input: &[u8],
-    out: &mut [u8],
-    work: &mut [u64],
-    place: usize,
-) -> ToldWhy
+pub fn quelohuite_why(input: &[u8], out: &mut [u8], work: &mut [u64], place: usize) -> ToldWhy
     ensures { let told = Why.asked input.now out.old work.old place in
         (told_why result ≡ in_five told.answer) × (out.new ≡ told.out) × (work.new ≡ told.work) }
 {
@@ -150,8 +142,7 @@ fn drawn_in_numbers(d: Drawn) -> Told
 }
 
 // Draws the graph of a recording: the answer in numbers, and the output and the work area at the end.
-#[unsafe(no_mangle)]
-pub extern "C" fn quelohuite_dot(input: &[u8], out: &mut [u8], work: &mut [u64]) -> Told
+pub fn quelohuite_dot(input: &[u8], out: &mut [u8], work: &mut [u64]) -> Told
     ensures { ◌≡◌ {A = Ending} (record { answer = told result; out = out.new; work = work.new })
         (Drawing.drawn input.now out.old work.old) }
 {
@@ -178,8 +169,7 @@ fn proposed_in_numbers(p: Proposed) -> Told
 }
 
 // Proposes yields for a recording: the answer in numbers, and the output and the work area at the end.
-#[unsafe(no_mangle)]
-pub extern "C" fn quelohuite_propose(input: &[u8], out: &mut [u8], work: &mut [u64]) -> Told
+pub fn quelohuite_propose(input: &[u8], out: &mut [u8], work: &mut [u64]) -> Told
     ensures { ◌≡◌ {A = Ending} (record { answer = told result; out = out.new; work = work.new })
         (Proposing.proposed input.now out.old work.old) }
 {
