@@ -25,7 +25,7 @@ use Rattle.trace.proofs.Together.{Edge, Way, no-serial, stand-same}
 use Rattle.trace.proofs.Reach.{cycle-means}
 use Rattle.trace.proofs.Greedy.{Topological, greedy-topological}
 use Rattle.trace.proofs.Serial.{arranged, arranged-reached, arranged-stands, one-serial-trace}
-use Rattle.trace.specs.Swaps as Any
+use Rattle.trace.specs.Swaps as AnySwaps
 use Rattle.graph.proofs.Clash.{conflict-sym}
 use Rattle.graph.proofs.Ends.{clash, owner, has-pair}
 use Rattle.graph.proofs.Numbers.{labelled-take, thread_in, clash-sym, clash-own, owned}
@@ -63,7 +63,7 @@ in_order es = arranged owner (serial_order es) (labelled es)
 order-topological : (es : List Event) → cyclic (edges (labelled es)) ≡ false → Topological (transactions es) (Edge clash owner (labelled es)) [] (serial_order es)
 order-topological es acyclic = greedy-topological (transactions es) (Edge clash owner (labelled es)) (thread_of (labelled es)) [] (serial_order es) (order_is es (λ n. n) (labelled es) (own es) acyclic)
 
-reached : (es : List Event) → cyclic (edges (labelled es)) ≡ false → Any.Swaps clash (labelled es) (in_order es)
+reached : (es : List Event) → cyclic (edges (labelled es)) ≡ false → AnySwaps.Swaps clash (labelled es) (in_order es)
 reached es acyclic = arranged-reached clash owner (transactions es) (labelled es) (owned es).small (serial_order es) (order-topological es acyclic)
 
 -- Cooperable: swaps turn the recording into the serial trace, and it is serial
