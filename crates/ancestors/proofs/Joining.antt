@@ -14,7 +14,7 @@ use Rattle.lists.proofs.Places.{less_one}
 use Rattle.rows.specs.Bits.{has, joined}
 use Rattle.graph.specs.Transactions.{transaction_limit}
 use Rattle.ancestors.specs.Others.{is_other, others}
-use Rattle.ancestors.specs.Sources.{leads, gathered, meeting, some_new, spread_to, closed_rows, begun_with, code_of, more, Joins}
+use Rattle.ancestors.specs.Sources.{gathered, meeting, some_new, spread_to, closed_rows, begun_with, code_of, more, Joins}
 use Rattle.ancestors.proofs.Gathering.{none-new}
 
 -- ---- what is held
@@ -49,12 +49,6 @@ some-other p a (c ∷ cs) = by (is_other a c)
     ∙ ap₂ (λ u v. u || v) (ap (λ b. b && p (pred c)) (sym e)) (some-other p a cs) ∙ sym (some-cons (λ d. is_other a d && p (pred d)) c cs))
     (λ e. ap (some_of p) (others-false a c cs e) ∙ some-other p a cs
     ∙ ap (λ b. (b && p (pred c)) || some_of (λ d. is_other a d && p (pred d)) cs) (sym e) ∙ sym (some-cons (λ d. is_other a d && p (pred d)) c cs))
-
-pub leads-in : (work : List ℕ) (a c : ℕ) (r : Bool) → is_other a c ≡ true → r ≡ has work (c - 1) a → r ≡ leads work a c
-leads-in work a c r e h = h ∙ ap (λ b. has work b a) (less_one c) ∙ sym (ap (λ b. b && has work (pred c) a) e)
-
-pub leads-out : (work : List ℕ) (a c : ℕ) → is_other a c ≡ false → false ≡ leads work a c
-leads-out work a c e = sym (ap (λ b. b && has work (pred c) a) e)
 
 -- ---- one source after the other
 
@@ -108,13 +102,6 @@ joins-then u v w a bs cs p q r f g h = record {
       ∙ sym (ap₂ code_of (some-append (λ b. not (has u a b)) bs cs) (meeting-append u a bs cs));
   rows = g.rows ∙ ap (λ l. gathered l a cs) f.rows ∙ sym (gathered-append u a bs cs);
 }
-
--- one more that brings nothing
-pub joins-more : (u v : List ℕ) (a : ℕ) (bs cs : List ℕ) (p : ℕ) → Joins u a bs p v → Joins v a cs 0 v → Joins u a (bs ++ cs) p v
-joins-more u v a bs cs p f g = joins-then u v v a bs cs p 0 p f g (sym (more-zero p))
-  where
-    more-zero : (n : ℕ) → more n 0 ≡ n
-    more-zero n = ap (λ b. cond b 0 n) (le-ltb n 0 (omega arith))
 
 -- one source: row a has its bit, or not
 one_code : (w : List ℕ) (a b : ℕ) (c : Bool) → has w a b ≡ c → code_of (some_new w a (b ∷ [])) (meeting w a (b ∷ [])) ≡ code_of (not c) (not c && has w b a)

@@ -16,7 +16,7 @@ use Rattle.trace.specs.Paths.{Edge, has_edge, PathAlong, reaches, cyclic}
 use Rattle.trace.proofs.Reach.{Last, last-edge, sound, complete, path-joined, edge-back, edge-below}
 use Rattle.trace.proofs.Closing.{reaches-goal, reaches-beyond, cyclic-goal}
 use Rattle.rows.specs.Bits.{has, begun}
-use Rattle.graph.specs.Transactions.{Labelled}
+use Rattle.graph.specs.declared.Labelled.{Labelled}
 use Rattle.graph.specs.Edges.{makes, edges}
 use Rattle.graph.proofs.Ends.{pair-has, has-pair}
 use Rattle.graph.proofs.Numbers.{bounded-edges}

@@ -14,12 +14,11 @@ use Rattle.lists.proofs.Tests.{by, by-same}
 use Rattle.lists.proofs.Lists.{Among, among_second, first-default, first-is, first-same, from_le, from-bound, map_at}
 use Rattle.trace.specs.Paths.{reaches, cyclic}
 use Rattle.rows.specs.Bits.{has}
-use Rattle.graph.specs.Transactions.{Tally, none_yet, begins, belongs, tallied, Labelled, labelled_from, labelled, tally_from, transactions, transaction_limit, work_size}
+use Rattle.graph.specs.declared.Labelled.{Labelled}
+use Rattle.graph.specs.declared.Tally.{Tally}
+use Rattle.graph.specs.Transactions.{none_yet, begins, belongs, tallied, labelled_from, labelled, tally_from, transactions, transaction_limit, work_size}
 use Rattle.graph.specs.Edges.{edges}
 use Rattle.graph.specs.Violation.{edges_up_to, cyclic_up_to, shortest, transaction_at}
-use Rattle.graph.specs.Held.{shown_of, record_at, held}
-use Rattle.graph.proofs.Alike.{shown-alike, transactions-alike, edges-alike, edges-up-to, shortest-alike, transaction-alike}
-use Rattle.graph.proofs.Held.{held-from, held-end}
 use Rattle.graph.proofs.Numbers.{Sane, sane-none, sane-tallied, belongs-first, belongs-lt, count-begun, count-unbegun, tally-rises, labels-lt, labelled-take}
 use Rattle.graph.proofs.Round.{labelled-length}
 use Rattle.ancestors.specs.Ancestors.{Stands, Found}
@@ -83,25 +82,6 @@ module _ {S : Type 0} (sources : S → Labelled → List ℕ) (next : S → Labe
         ≡ searched_from sources next (suc k) (begun_with x.transaction n) (kept_with next s x) (rows_with sources s work (looked x.transaction n) x) xs
     unfolding searched_from
     searched-more e = rw (e, searched_from)
-
--- the same over the records that arrays hold, of which i are behind the search
-module _ {S : Type 0} (sources : S → Labelled → List ℕ) (next : S → Labelled → S) (count : ℕ) (all : List Event) (labels : List ℕ) (i n : ℕ) (s : S) (work : List ℕ) where
-  abbrev x : Labelled
-  x = record_at all labels i
-
-  pub search-ends : count ≤ i → searched_from sources next i n s work (drop i (held count all labels)) ≡ record { prefix = 0; rows = work }
-  search-ends h = ap (searched_from sources next i n s work) (held-end count i all labels h) ∙ searched-none sources next i n s work
-
-  module _ (h : i < count) where
-    pub search-hits : closes_cycle sources s work (record_at all labels i) ≡ true
-        → searched_from sources next i n s work (drop i (held count all labels)) ≡ record { prefix = suc i; rows = rows_with sources s work (looked (get_or labels i 0) n) (record_at all labels i) }
-    search-hits e = ap (searched_from sources next i n s work) (held-from count i all labels h) ∙ searched-hit sources next i n s work x (drop (suc i) (held count all labels)) e
-
-    pub search-goes-on : closes_cycle sources s work (record_at all labels i) ≡ false
-        → searched_from sources next i n s work (drop i (held count all labels))
-        ≡ searched_from sources next (suc i) (begun_with (get_or labels i 0) n) (kept_with next s (record_at all labels i))
-        (rows_with sources s work (looked (get_or labels i 0) n) (record_at all labels i)) (drop (suc i) (held count all labels))
-    search-goes-on e = ap (searched_from sources next i n s work) (held-from count i all labels h) ∙ searched-more sources next i n s work x (drop (suc i) (held count all labels)) e
 
 -- ---- the transactions are numbered as they begin
 
@@ -295,26 +275,3 @@ pub found_from : (es : List Event) (start before : List ℕ) (prefix : ℕ) (wor
     → Found es start prefix work → Found es before prefix work
 found_from es start before prefix work size rest f =
     record { first = f.first; stands = f.stands; row = f.row; size = f.size ∙ size; rest = f.rest ∙ rest }
-
--- the same of operations that the graph doesn't tell apart
-pub found_alike : (es : List Event) (before : List ℕ) (prefix : ℕ) (work : List ℕ) → Found (map shown_of es) before prefix work → Found es before prefix work
-found_alike es before prefix work f = record {
-  first = f.first ∙ shortest-alike shown_of shown-alike es;
-  stands = λ z. subst (λ n. Stands n work (edges (labelled es))) (transactions-alike shown_of shown-alike es)
-      (subst (λ g. Stands (transactions (map shown_of es)) work g) (edges-alike shown_of shown-alike es) (f.stands z));
-  row = λ k q b hb. subst (λ t. has work t b ≡ reaches (edges_up_to es (suc k)) b t) (transaction-alike shown_of shown-alike es k)
-      (f.row k q b hb ∙ ap (λ g. reaches g b (transaction_at (map shown_of es) k)) (edges-up-to shown_of shown-alike es (suc k)));
-  size = f.size;
-  rest = f.rest;
-}
-
-pub found-shown : (es : List Event) (before : List ℕ) (prefix : ℕ) (work : List ℕ) → Found es before prefix work → Found (map shown_of es) before prefix work
-found-shown es before prefix work f = record {
-  first = f.first ∙ sym (shortest-alike shown_of shown-alike es);
-  stands = λ z. subst (λ n. Stands n work (edges (labelled (map shown_of es)))) (sym (transactions-alike shown_of shown-alike es))
-      (subst (λ g. Stands (transactions es) work g) (sym (edges-alike shown_of shown-alike es)) (f.stands z));
-  row = λ k q b hb. subst (λ t. has work t b ≡ reaches (edges_up_to (map shown_of es) (suc k)) b t) (sym (transaction-alike shown_of shown-alike es k))
-      (f.row k q b hb ∙ ap (λ g. reaches g b (transaction_at es k)) (sym (edges-up-to shown_of shown-alike es (suc k))));
-  size = f.size;
-  rest = f.rest;
-}

@@ -1,8 +1,14 @@
 -- What crates promise one another about an engine's search for the shortest prefix with a cycle, over any engine.
 -- A reader of the public promises need not read this.
-use Rattle.std.specs.Prelude.{ℕ, suc, Bool, true, false, cond, ◌&&◌, List, [], ◌∷◌, ltb}
-use Rattle.graph.specs.Transactions.{Labelled, transaction_limit}
+use Rattle.std.specs.Prelude.{ℕ, suc, Bool, true, false, cond, ◌&&◌, List, [], ◌∷◌, ltb, Option, None, Some}
+use Rattle.graph.specs.declared.Labelled.{Labelled}
+use Rattle.graph.specs.Transactions.{transaction_limit}
 use Rattle.ancestors.specs.Sources.{meeting, closed_rows, looked, begun_with}
+
+-- How many records a prefix has, by the record that it ends in; 0 where there is none
+abbrev pub prefix_of : Option ℕ → ℕ
+prefix_of None = 0
+prefix_of (Some k) = suc k
 
 -- What a search finds and leaves: how many records the shortest prefix with a cycle has, or 0; and the rows
 pub record Searched : Type 0 where

@@ -4,6 +4,8 @@ use Rattle.std.specs.Prelude.{ℕ, zero, suc, pred, ◌≡◌, Bool, false, cond
 use Rattle.lists.specs.Lists.{some_of}
 use Rattle.rows.specs.Bits.{has, joined}
 use Rattle.graph.specs.Transactions.{transaction_limit}
+use Rattle.ancestors.specs.declared.Joined.{Joined}
+use Rattle.ancestors.specs.declared.Joined.TheVariants.{Nothing, Source, Cycle}
 use Rattle.ancestors.specs.Others.{is_other}
 
 -- whether a reaches the transaction that is held, another than a
@@ -44,6 +46,11 @@ unfoldable pub begun_with : ℕ → ℕ → ℕ
 begun_with a n = cond (eqb a n && ltb a transaction_limit) (suc n) n
 
 -- ---- what comes in, in a number
+
+abbrev pub code : Joined → ℕ
+code Nothing = 0
+code Source = 1
+code Cycle = 2
 
 -- 0 where none is new, 2 where one that is new is reached from a, else 1
 abbrev pub code_of : Bool → Bool → ℕ

@@ -1,8 +1,8 @@
 -- Any two answers that a promise permits are equal: the numbers of an answer tell the answer.
 use native.Mathlib.Omega.{arith}
 use mathlib.Core.Path.{◌≡◌, ap, ap₂}
-use Rattle.record.specs.declared.Refusal.{Refusal}
 use Rattle.record.specs.Answers.{Numbers}
+use Rattle.record.proofs.Numbers.{refusals-same}
 use Rattle.checker.specs.declared.Answer.{Answer}
 use Rattle.checker.specs.declared.Answer.TheVariants.{Cooperable, Violation, Refused}
 use Rattle.checker.specs.Verdict.{numbers}
@@ -17,9 +17,6 @@ firsts e = ap (λ n. n.first) e
 seconds : {m n : Numbers} → m ≡ n → m.second ≡ n.second
 seconds e = ap (λ n. n.second) e
 
-same-refusal : (r s : Refusal) → r.number ≡ s.number → r.place ≡ s.place → r ≡ s
-same-refusal r s p q = ap₂ {C = Refusal} (λ n k. record { number = n; place = k }) p q
-
 pub answers-same : (a b : Answer) → numbers a ≡ numbers b → a ≡ b
 answers-same (Cooperable n t) (Cooperable m u) e = ap₂ Cooperable (firsts e) (seconds e)
 answers-same (Cooperable n t) (Violation k l) e = absurd (omega (arith, kinds e))
@@ -29,4 +26,4 @@ answers-same (Violation k l) (Violation j m) e = ap₂ Violation (firsts e) (sec
 answers-same (Violation k l) (Refused r) e = absurd (omega (arith, kinds e))
 answers-same (Refused r) (Cooperable m u) e = absurd (omega (arith, kinds e))
 answers-same (Refused r) (Violation j m) e = absurd (omega (arith, kinds e))
-answers-same (Refused r) (Refused s) e = ap Refused (same-refusal r s (firsts e) (seconds e))
+answers-same (Refused r) (Refused s) e = ap Refused (refusals-same r s (firsts e) (seconds e))

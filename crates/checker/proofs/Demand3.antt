@@ -6,8 +6,8 @@ use mathlib.Core.Logic.{inl, inr, ⊎_elim}
 use mathlib.Core.List.{List, [], ◌∷◌, ◌++◌, map}
 use lib.ListN.{length, drop, replicate, length-map}
 use lib.Dec.{T}
+use Rattle.std.specs.Prelude.{Ok}
 use Rattle.record.specs.declared.Event.{Event}
-use Rattle.record.specs.declared.Decoded.TheVariants.{Good}
 use Rattle.record.specs.Answers.{Ending}
 use Rattle.record.specs.Record.{event, decoded, encoded, in_two, in_range, records, records_of}
 use Rattle.record.proofs.Laws.{decode-encoded}
@@ -48,7 +48,7 @@ numbers-written (n ∷ ns) rest = ap₂ (λ m l. m ∷ l) whole (numbers-written
 
 -- ---- events in range
 
-decoded-all : (t : List Event) → ((e : Event) → Among e t → T (in_range e)) → map decoded (map encoded t) ≡ map Good t
+decoded-all : (t : List Event) → ((e : Event) → Among e t → T (in_range e)) → map decoded (map encoded t) ≡ map Ok t
 decoded-all [] h = refl
 decoded-all (e ∷ t) h = ap₂ (λ d l. d ∷ l) (decode-encoded e (h e Among.top)) (decoded-all t (λ f m. h f (Among.deeper m)))
 
@@ -94,7 +94,7 @@ module _ (input out work : List ℕ) (fine : (refusal input out work).number ≡
     reached : Swaps es (serial_trace es)
     reached = (cooperable-right es none).0
 
-    decodes : map decoded (records (judged input out work).answer.first (judged input out work).out) ≡ map Good (serial_trace es)
+    decodes : map decoded (records (judged input out work).answer.first (judged input out work).out) ≡ map Ok (serial_trace es)
     unfolding cooperable over
     decodes =
         let t : List Event = serial_trace es in

@@ -1,41 +1,41 @@
 -- Laws of the whole promise: a recording that is refused, and one that is not.
-use Prim.Native.Nat.{ℕ, zero, suc, ◌/◌, ◌≤◌, min}
+use Prim.Native.Nat.{ℕ, zero, suc, ◌/◌, ◌≤◌}
 use native.Mathlib.Omega.{arith}
 use mathlib.Core.Path.{◌≡◌, refl, sym, ap, ◌∙◌, subst}
-use mathlib.Core.Logic.{◌≢◌}
-use mathlib.Core.List.{List, [], ◌∷◌, ◌++◌, map}
+use mathlib.Core.List.{List, [], ◌∷◌, ◌++◌}
 use lib.Dec.{leb}
+use lib.ListN.{length, take, drop, replicate, length-replicate}
 use borrow.Author.Tests.{leb-true}
-use Rattle.record.proofs.Laws.{none_first}
-use Rattle.rows.proofs.Laws.{length-begun, rest-begun}
-use lib.ListN.{length, drop, replicate, length-replicate}
-use Rattle.record.specs.declared.Refusal.{Refusal}
-use Rattle.record.specs.Answers.{Numbers, refused_as, Ending}
-use Rattle.record.specs.Faults.{Check, check, first_fault}
+use Rattle.std.specs.Prelude.{Some, None, Result, Ok, Err, IsErrAnd}
+use Rattle.record.specs.declared.Fault.{Fault}
+use Rattle.record.specs.declared.Refusal.{Refusal as Given}
+use Rattle.record.specs.Faults.{Refusal, Check, check, first_fault}
+use Rattle.record.specs.Answers.{Numbers, number, refusal_of, refusal_in, refused_as, at_no_record, Ending}
+use Rattle.record.proofs.Laws.{none_first, number-some}
 use Rattle.lists.specs.Lists.{over}
 use Rattle.rows.specs.Bits.{begun}
-use Rattle.graph.specs.Transactions.{Labelled, transactions, work_size, labelled}
+use Rattle.rows.proofs.Laws.{length-begun, rest-begun}
+use Rattle.graph.specs.declared.Labelled.{Labelled}
+use Rattle.graph.specs.Transactions.{none_yet, transactions, work_size, labelled}
 use Rattle.graph.specs.Violation.{shortest}
 use Rattle.graph.specs.Named.{named}
-use Rattle.graph.specs.Held.{array_size, events_in, held, shown_of}
+use Rattle.graph.proofs.Labels.{labelled-events}
+use Rattle.graph.proofs.Round.{labelled-length}
 use Rattle.ancestors.specs.Ancestors.{Stands, Found}
+use Rattle.ancestors.specs.Search.{Searched}
 use Rattle.ancestors.proofs.Standing.{begun-stands}
-use Rattle.ancestors.specs.Search.{Searched, searched}
-use Rattle.plain.specs.Plain.{sources, next}
-use Rattle.plain.proofs.Right.{shown-right}
-use Rattle.second.specs.Taken.{searched_as, second_searched}
-use Rattle.second.proofs.Right.{possible-search-right}
 use Rattle.looking.specs.declared.Looked.{Looked}
 use Rattle.looking.specs.Refusals.{input_checks, refused_by, events}
-use Rattle.looking.specs.Looked.{Arrays, Looking, looked}
-use Rattle.looking.proofs.Refusing.{size-refused, sizes-passed, inputs-first, inputs-next, inputs-passed, more-passed}
+use Rattle.looking.specs.Looked.{Looking, looked}
+use Rattle.looking.proofs.Refusing.{size-refused, sizes-passed, inputs-next, inputs-passed, more-passed}
 use Rattle.looking.proofs.Laws.{Passed, passed, Noted, looked-refusal, looked-noted}
+use Rattle.looking.proofs.Scanned.{events-size}
 use Rattle.checker.specs.declared.Answer.{Answer}
 use Rattle.checker.specs.declared.Answer.TheVariants.{Refused}
 use Rattle.checker.specs.Verdict.{numbers, verdict}
 use Rattle.checker.specs.Judged.{size_checks, refusal, judged}
-use Rattle.checker.specs.Left.{arrays_left, order_left}
-use Rattle.checker.specs.Concluded.{Whole, LookedAt, Ready, Concluded}
+use Rattle.checker.specs.Left.{records_left, order_left}
+use Rattle.checker.specs.Concluded.{Sound, FindsShortest, refused_in, Whole, LookedAt, history, Ready, Concluded}
 
 -- the three contents that are left
 abbrev pub left : Numbers → List ℕ → List ℕ → Ending
@@ -47,26 +47,17 @@ module _ (input out work : List ℕ) where
   abbrev pub more : List Check
   more = check 3 0 (leb (length input) (length out)) ∷ check 4 0 (leb work_size (length work)) ∷ []
 
-  -- 1 and 2 go first; then 3 and 4
-  pub size-first : (n : ℕ) → n ≡ first_fault (input_checks input) → n ≢ 0 → n ≡ first_fault (size_checks input out work)
-  unfolding size_checks
-  size-first n is some = inputs-first input more n is some
-
-  pub size-next : first_fault (input_checks input) ≡ 0 → first_fault (size_checks input out work) ≡ first_fault more
-  unfolding size_checks
-  size-next fine = inputs-next input more fine
-
   refusal_is : refusal input out work ≡ refused_by (size_checks input out work) input
   unfolding refusal
   refusal_is = refl
 
-  arrays-kept : (old : Arrays) (n : ℕ) → first_fault (size_checks input out work) ≡ suc n → arrays_left input out work old ≡ old
-  unfolding arrays_left
-  arrays-kept old n h = rw (h, arrays_left)
+  records-kept : (old : List Labelled) (n : ℕ) → first_fault (size_checks input out work) ≡ suc n → records_left input out work old ≡ old
+  unfolding records_left
+  records-kept old n h = rw (h, records_left)
 
-  pub arrays-looked : (old : Arrays) → first_fault (size_checks input out work) ≡ 0 → arrays_left input out work old ≡ (looked input old).arrays
-  unfolding arrays_left
-  arrays-looked old h = rw (h, arrays_left)
+  pub records-looked : (old : List Labelled) → first_fault (size_checks input out work) ≡ 0 → records_left input out work old ≡ (looked input old).records
+  unfolding records_left
+  records-looked old h = rw (h, records_left)
 
   -- a recording that isn't refused: its sizes, and what looking finds
   pub sizes-of : (refusal input out work).number ≡ 0 → first_fault (size_checks input out work) ≡ 0
@@ -74,17 +65,21 @@ module _ (input out work : List ℕ) where
   sizes-of fine = sizes-passed (size_checks input out work) input fine
 
   -- a size is refused: nothing changes
-  pub looked-sizes : (old : Arrays) (n : ℕ) → n ≡ first_fault (size_checks input out work) → n ≢ 0
-      → LookedAt input out work old (record { refusal = record { number = n; place = 0 }; transactions = 0 }) old
-  looked-sizes old n is some = record {
-    refusal_is = sym (refusal_is ∙ size-refused (size_checks input out work) input n (sym is) some);
-    arrays-are = go n refl;
-    none = λ z. absurd (some z);
+  pub looked-sizes : (old : List Labelled) (r : Result ℕ Given) (f : Fault) → IsErrAnd r (λ e. e ≡ at_no_record f) → number f ≡ first_fault (size_checks input out work)
+      → LookedAt input out work old r old
+  looked-sizes old (Ok n) f h is = absurd h
+  looked-sizes old (Err e) f h is = record {
+    refusal_is = ap refusal_of h ∙ sym (refusal_is ∙ size-refused (size_checks input out work) input (number f) (sym is) (number-some f));
+    records-are = go (number f) refl;
+    whole = λ n q. absurd (ok-err q);
   }
     where
-      go : (m : ℕ) → n ≡ m → old ≡ arrays_left input out work old
-      go zero q = absurd (some q)
-      go (suc m) q = sym (arrays-kept old m (sym is ∙ q))
+      ok-err : {n : ℕ} {e : Given} → ◌≡◌ {A = Result ℕ Given} (Err e) (Ok n) → ⊥
+      ok-err q = cc
+
+      go : (m : ℕ) → number f ≡ m → old ≡ records_left input out work old
+      go zero q = absurd (number-some f q)
+      go (suc m) q = sym (records-kept old m (sym is ∙ q))
 
   -- the sizes are right
   module _ (fine : first_fault (size_checks input out work) ≡ 0) where
@@ -101,56 +96,68 @@ module _ (input out work : List ℕ) where
     unfolding refusal size_checks
     refused-alike = more-passed input more fine
 
-    pub looked-none : (refusal input out work).number ≡ 0 → (old : Arrays) → (looked input old).refusal.number ≡ 0
+    pub looked-none : (refusal input out work).number ≡ 0 → (old : List Labelled) → (looked input old).refusal.number ≡ 0
     looked-none none old = ap (λ r. r.number) (sym (refused-alike ∙ looked-refusal input old (looked input old) refl)) ∙ none
 
-    pub looked-records : (old : Arrays) (l : Looked) (a : Arrays) → ◌≡◌ {A = Looking} (record { refusal = l.refusal; transactions = l.transactions; arrays = a }) (looked input old)
-        → LookedAt input out work old l a
-    looked-records old l a is =
-        let r : Looking = record { refusal = l.refusal; transactions = l.transactions; arrays = a } in
-        record {
-          refusal_is = sym (refused-alike ∙ looked-refusal input old r is);
-          arrays-are = ap (λ x. x.arrays) is ∙ sym (arrays-looked old fine);
-          none = λ z.
-              let p : Passed input = passed input (ap (λ x. x.number) (looked-refusal input old r is) ∙ z) in
-              let f : Noted input a l.transactions = looked-noted input old r is z in (
-                record {
-                  size = omega (arith, p.whole);
-                  most = p.most;
-                  labelled-are = f.owned-are;
-                  shown-are = f.labelled-are;
-                  counted = f.counted;
-                  few = p.few;
-                  label-few = f.few;
-                  can-be = p.can-be;
-                  in-range = p.in-range;
-                },
-                rooms.1,
-                rooms.0,
-              );
-        }
+    module _ (old : List Labelled) (l : Looked) (xs : List Labelled)
+        (is : ◌≡◌ {A = Looking} (record { refusal = refusal_in l.refusal; transactions = l.transactions; records = xs }) (looked input old)) where
+      abbrev now : Looking
+      now = record { refusal = refusal_in l.refusal; transactions = l.transactions; records = xs }
+
+      alike : refusal_in l.refusal ≡ refusal input out work
+      alike = sym (refused-alike ∙ looked-refusal input old now is)
+
+      records-are : xs ≡ records_left input out work old
+      records-are = ap (λ x. x.records) is ∙ sym (records-looked old fine)
+
+      pub looked_some : (e : Given) → l.refusal ≡ Some e → LookedAt input out work old (Err e) xs
+      looked_some e some = record { refusal_is = ap refusal_in (sym some) ∙ alike; records-are = records-are; whole = λ n q. absurd (ok-err q) }
+        where
+          ok-err : {n : ℕ} {e : Given} → ◌≡◌ {A = Result ℕ Given} (Err e) (Ok n) → ⊥
+          ok-err q = cc
+
+      pub looked_ok : l.refusal ≡ None → LookedAt input out work old (Ok l.transactions) xs
+      looked_ok none = record {
+        refusal_is = ap refusal_in (sym none) ∙ alike;
+        records-are = records-are;
+        whole = λ n q.
+            let zero-is : (refusal_in l.refusal).number ≡ 0 = ap (λ o. (refusal_in o).number) none in
+            let p : Passed input = passed input (ap (λ x. x.number) (looked-refusal input old now is) ∙ zero-is) in
+            let f : Noted input xs l.transactions = looked-noted input old now is zero-is in
+            record {
+              size = omega (arith, p.whole);
+              are = f.are;
+              sound = record { most = omega (arith, events-size input, p.most); few = p.few; can-be = p.can-be; in-range = p.in-range };
+              counted = sym (same q) ∙ f.counted;
+              long = rooms.1;
+              out-room = rooms.0;
+            };
+      }
+        where
+          same : {m n : ℕ} → ◌≡◌ {A = Result ℕ Given} (Ok m) (Ok n) → m ≡ n
+          same q = cc
 
 -- ---- A recording that is refused
 
-module _ (input out work : List ℕ) (old : Arrays) (l : Looked) (a : Arrays) (f : LookedAt input out work old l a) where
-  module _ (some : l.refusal.number ≢ 0) where
-    again : (P : Refusal → Type 0) → ((n k : ℕ) → refusal input out work ≡ record { number = suc n; place = k } → P (record { number = suc n; place = k })) → P l.refusal
-    again P h = go l.refusal f.refusal_is some
+module _ (input out work : List ℕ) (old : List Labelled) (r : Result ℕ Given) (xs : List Labelled) (f : LookedAt input out work old r xs) where
+  module _ (e : Given) (some : r ≡ Err e) where
+    given : refusal_of e ≡ refusal input out work
+    given = ap refused_in (sym some) ∙ f.refusal_is
+
+    again : (P : Refusal → Type 0) → ((n k : ℕ) → refusal input out work ≡ record { number = suc n; place = k } → P (record { number = suc n; place = k })) → P (refusal_of e)
+    again P h = at (number e.fault) refl
       where
-        go : (r : Refusal) → r ≡ refusal input out work → r.number ≢ 0 → P r
-        go r is more = at r.number refl
-          where
-            at : (n : ℕ) → r.number ≡ n → P r
-            at zero q = absurd (more q)
-            at (suc n) q =
-                let same : r ≡ record { number = suc n; place = r.place } = ap (λ m. record { number = m; place = r.place }) q in
-                subst P (sym same) (h n r.place (sym is ∙ same))
+        at : (n : ℕ) → number e.fault ≡ n → P (refusal_of e)
+        at zero q = absurd (number-some e.fault q)
+        at (suc n) q =
+            let same : refusal_of e ≡ record { number = suc n; place = e.place } = ap (λ m. record { number = m; place = e.place }) q in
+            subst P (sym same) (h n e.place (sym given ∙ same))
 
     judged-at : (n k : ℕ) → refusal input out work ≡ record { number = suc n; place = k } → left (refused_as (record { number = suc n; place = k })) out work ≡ judged input out work
     unfolding judged
     judged-at n k h = sym (rw (h, judged) (ap (λ r. left (refused_as r) out work) h))
 
-    pub judged-refused : left (numbers (Refused l.refusal)) out work ≡ judged input out work
+    pub judged-refused : left (numbers (Refused e)) out work ≡ judged input out work
     judged-refused = again (λ r. left (refused_as r) out work ≡ judged input out work) judged-at
 
     order-at : (order : List ℕ) (n k : ℕ) → refusal input out work ≡ record { number = suc n; place = k } → order ≡ order_left input out work order
@@ -162,71 +169,76 @@ module _ (input out work : List ℕ) (old : Arrays) (l : Looked) (a : Arrays) (f
 
   -- ---- A recording that isn't
 
-  module _ (none : l.refusal.number ≡ 0) where
+  module _ (n : ℕ) (none : r ≡ Ok n) where
     no-refusal : (refusal input out work).number ≡ 0
-    no-refusal = ap (λ r. r.number) (sym f.refusal_is) ∙ none
+    no-refusal = ap (λ x. x.number) (sym f.refusal_is) ∙ ap (λ x. (refused_in x).number) none
 
-    whole : Whole input a l.transactions
-    whole = (f.none none).0
+    whole : Whole input out work xs n
+    whole = f.whole n none
 
-    -- the rows begun stand for no edges
-    pub begun-none : (w : List ℕ) → w ≡ begun l.transactions work → Stands (transactions (events input)) w []
-    begun-none w is = subst (λ v. Stands (transactions (events input)) v []) (sym (is ∙ ap (λ n. begun n work) whole.counted))
-        (begun-stands (transactions (events input)) work whole.few (f.none none).1)
+    -- its records
+    abbrev pub seen : List Labelled
+    seen = take (length input / 8) xs
 
-    module _ (start : List ℕ) (start_is : start ≡ begun l.transactions work) (prefix : ℕ) (w : List ℕ) (found : Found (events input) start prefix w) where
-      start-long : length start ≡ length work
-      start-long = ap length start_is ∙ length-begun l.transactions work (f.none none).1
+    history_is : history seen ≡ events input
+    history_is = ap history whole.are ∙ labelled-events none_yet (events input)
 
-      pub ready : Ready input a l.transactions prefix w out
-      ready = record {
-        whole = whole;
-        found = record { first = found.first; stands = found.stands; row = found.row; size = refl; rest = refl };
-        long = omega (arith, found.size, start-long, (f.none none).1);
-        out-room = (f.none none).2;
-      }
+    pub seen-most : length input / 8 ≤ 1024
+    seen-most = omega (arith, events-size input, whole.sound.most)
 
-      cleared-same : over (replicate work_size 0) w ≡ over (replicate work_size 0) work
-      unfolding over
-      cleared-same =
-          let n : ℕ = work_size in
-          let z : ℕ = 0 in
-          ap (λ t. replicate n z ++ t) (subst (λ k. drop k w ≡ drop k work) (sym (length-replicate n z)) (found.rest ∙ ap (drop work_size) start_is ∙ rest-begun l.transactions work (f.none none).1))
+    seen-size : length seen ≡ length input / 8
+    seen-size = ap length whole.are ∙ labelled-length none_yet (events input) ∙ events-size input
 
-      judged-passed : (x : Numbers) (o v : List ℕ) → x ≡ (verdict (events input)).answer → o ≡ over (verdict (events input)).written out → v ≡ over (replicate work_size 0) work
-          → left x o v ≡ judged input out work
-      unfolding judged
-      judged-passed x o v p q r = sym (rw (no-refusal, judged, p, q, r))
+    module _ (start : List ℕ) (start_is : start ≡ begun n work) where
+      -- the rows begun stand for no edges
+      begun-none : Stands (transactions (events input)) start []
+      begun-none = subst (λ v. Stands (transactions (events input)) v []) (sym (start_is ∙ ap (λ m. begun m work) whole.counted))
+          (begun-stands (transactions (events input)) work whole.sound.few whole.long)
 
-      order-passed : (order order' : List ℕ) → order' ≡ over (named (events input) (shortest (events input))) order → order' ≡ order_left input out work order
-      unfolding order_left
-      order-passed order order' p = p ∙ sym (rw (no-refusal, order_left))
+      -- what an engine finds
+      pub found : (finds : List ℕ → List Labelled → Searched) → FindsShortest finds → (prefix : ℕ) (w : List ℕ)
+          → ◌≡◌ {A = Searched} (record { prefix = prefix; rows = w }) (finds start seen) → Found (events input) start prefix w
+      found finds right prefix w is =
+          subst (λ s. Found (events input) start s.prefix s.rows) (sym (is ∙ ap (finds start) whole.are)) (right (events input) whole.sound start begun-none)
 
-      module _ (order : List ℕ) (x : Answer) (out' work' order' : List ℕ) (c : Concluded (events input) out w order x out' work' order') where
-        pub judged-whole : left (numbers x) out' work' ≡ judged input out work
-        judged-whole = judged-passed (numbers x) out' work' c.written.answer c.written.written (c.cleared ∙ cleared-same)
+      module _ (prefix : ℕ) (w : List ℕ) (find : Found (events input) start prefix w) where
+        start-long : length start ≡ length work
+        start-long = ap length start_is ∙ length-begun n work whole.long
 
-        pub order-whole : order' ≡ order_left input out work order
-        order-whole = order-passed order order' c.all_named
+        pub ready : Ready seen n prefix w out
+        ready =
+            let h : events input ≡ history seen = sym history_is in
+            record {
+              are = whole.are ∙ ap labelled h;
+              sound = subst Sound h whole.sound;
+              counted = whole.counted ∙ ap transactions h;
+              found = subst (λ es. Found es w prefix w) h (record { first = find.first; stands = find.stands; row = find.row; size = refl; rest = refl });
+              long = omega (arith, find.size, start-long, whole.long);
+              out-room = omega (arith, seen-size, whole.size, whole.out-room);
+            }
 
--- ---- What either engine finds
+        cleared-same : over (replicate work_size 0) w ≡ over (replicate work_size 0) work
+        unfolding over
+        cleared-same =
+            let n₀ : ℕ = work_size in
+            let z : ℕ = 0 in
+            ap (λ t. replicate n₀ z ++ t) (subst (λ k. drop k w ≡ drop k work) (sym (length-replicate n₀ z)) (find.rest ∙ ap (drop work_size) start_is ∙ rest-begun n work whole.long))
 
-abbrev pub records_in : List ℕ → Arrays → List Labelled
-records_in input a = held (min (length input / 8) array_size) (events_in a.threads a.kinds a.targets) a.labels
+        judged-passed : (x : Numbers) (o v : List ℕ) → x ≡ (verdict (events input)).answer → o ≡ over (verdict (events input)).written out → v ≡ over (replicate work_size 0) work
+            → left x o v ≡ judged input out work
+        unfolding judged
+        judged-passed x o v p q r = sym (rw (no-refusal, judged, p, q, r))
 
-module _ (input : List ℕ) (a : Arrays) (n : ℕ) (w : Whole input a n) (start : List ℕ) (stands : Stands (transactions (events input)) start []) where
-  shown-records : records_in input a ≡ labelled (map shown_of (events input))
-  shown-records =
-      let most : min (length input / 8) array_size ≡ length input / 8 = omega (arith, w.most) in
-      ap (λ m. held m (events_in a.threads a.kinds a.targets) a.labels) most ∙ w.shown-are
+        order-passed : (order order' : List ℕ) → order' ≡ over (named (events input) (shortest (events input))) order → order' ≡ order_left input out work order
+        unfolding order_left
+        order-passed order order' p = p ∙ sym (rw (no-refusal, order_left))
 
-  pub found-second : (r : ℕ) (work : List ℕ) → searched_as r work ≡ second_searched start (records_in input a) → Found (events input) start r work
-  found-second r work is =
-      subst (λ s. Found (events input) start s.prefix s.rows) (sym is)
-      (possible-search-right (events input) w.can-be w.in-range w.few (records_in input a) shown-records start stands)
+        module _ (order : List ℕ) (x : Answer) (out' work' order' : List ℕ) (end : Concluded (history seen) out w order x out' work' order') where
+          ended : Concluded (events input) out w order x out' work' order'
+          ended = subst (λ es. Concluded es out w order x out' work' order') history_is end
 
-  pub found_plain : (r : ℕ) (work : List ℕ) → ◌≡◌ {A = Searched} (record { prefix = r; rows = work }) (searched sources next [] start (records_in input a))
-      → Found (events input) start r work
-  found_plain r work is =
-      subst (λ s. Found (events input) start s.prefix s.rows) (sym (is ∙ ap (searched sources next [] start) shown-records))
-      (shown-right (events input) w.few start stands)
+          pub judged-whole : left (numbers x) out' work' ≡ judged input out work
+          judged-whole = judged-passed (numbers x) out' work' ended.written.answer ended.written.written (ended.cleared ∙ cleared-same)
+
+          pub order-whole : order' ≡ order_left input out work order
+          order-whole = order-passed order order' ended.all_named

@@ -1,43 +1,38 @@
--- Laws of what a judgement leaves besides the answer, for those who go on from it: the arrays hold the recording, and the front of the order the
+-- Laws of what a judgement leaves besides the answer, for those who go on from it: the array holds the recording, and the front of the order the
 -- transactions that the answer names. And of the lines that are reported.
-use Prim.Native.Nat.{ℕ, zero, suc, ◌/◌, ◌≤◌, ◌<◌}
+use Prim.Native.Nat.{ℕ, zero, suc, ◌/◌, ◌≤◌}
 use native.Mathlib.Omega.{arith}
 use mathlib.Core.Path.{◌≡◌, refl, sym, ap, ap₂, ◌∙◌, subst, fun_ext}
 use mathlib.Core.Logic.{◌≢◌}
-use mathlib.Core.Bool.{cond}
-use mathlib.Core.List.{List, [], ◌∷◌}
-use lib.Dec.{ltb}
+use mathlib.Core.List.{List, [], ◌∷◌, map}
 use lib.ListN.{length, get_or, take}
-use borrow.Author.Tests.{lt-ltb, le-ltb, ltb-true, ltb-false}
-use Rattle.lists.proofs.Tests.{by}
 use Rattle.record.specs.declared.Event.{Event}
 use Rattle.record.specs.Faults.{first_fault}
-use Rattle.lists.specs.Lists.{each, over}
-use Rattle.lists.proofs.Lists.{over-front}
-use Rattle.graph.specs.Serial.{thread_of}
+use Rattle.lists.specs.Lists.{over}
+use Rattle.lists.proofs.Lists.{Among, at-among, over-front}
+use Rattle.graph.specs.declared.Labelled.{Labelled}
+use Rattle.graph.specs.Transactions.{none_yet, labelled}
 use Rattle.graph.specs.Violation.{shortest}
 use Rattle.graph.specs.Named.{named}
+use Rattle.graph.proofs.Round.{labelled-length}
 use Rattle.graph.proofs.Sizes.{order-size, cycle-most}
 use Rattle.looking.specs.Refusals.{events}
-use Rattle.looking.specs.Looked.{Arrays, looked}
-use Rattle.looking.proofs.Laws.{Noted, looked-noted}
+use Rattle.looking.specs.Looked.{looked}
+use Rattle.looking.proofs.Laws.{Noted, noted-few, looked-noted}
+use Rattle.looking.proofs.Scanned.{events-size}
 use Rattle.checker.specs.declared.Answer.{Answer}
 use Rattle.checker.specs.declared.Answer.TheVariants.{Cooperable, Violation, Refused}
+use Rattle.checker.specs.declared.Line.{Line}
 use Rattle.checker.specs.Verdict.{numbers, cooperable, violation}
 use Rattle.checker.specs.Judged.{size_checks, refusal, judged}
 use Rattle.checker.specs.Report as Report
 use Rattle.checker.specs.Report.{reported}
-use Rattle.checker.specs.Left.{arrays_left, order_left}
-use Rattle.checker.specs.Writing.{no_record, first_from, line_of}
+use Rattle.checker.specs.Left.{records_left, order_left}
+use Rattle.checker.specs.Writing.{past_end, Few, line_of}
 use Rattle.checker.specs.Concluded.{named_in}
-use Rattle.checker.proofs.Judging.{left, arrays-looked, looked-none, sizes-of}
+use Rattle.checker.proofs.Judging.{left, records-looked, looked-none, sizes-of}
 use Rattle.checker.proofs.Demand3.{passed, is-cooperable, is-violation, refused-keeps}
 use Rattle.checker.proofs.Ending.{named-serial, named-cycle, over-long}
-use Rattle.checker.proofs.Linking.{Sought, begun, first-low}
-
--- one number is below another, or not
-by_less : {C : Type 0} (m n : ℕ) → (m < n → C) → (n ≤ m → C) → C
-by_less m n f g = by (ltb m n) (λ e. f (ltb-true m n e)) (λ e. g (ltb-false m n e))
 
 module _ (input out work : List ℕ) (fine : (refusal input out work).number ≡ 0) where
   abbrev es : List Event
@@ -64,12 +59,12 @@ module _ (input out work : List ℕ) (fine : (refusal input out work).number ≡
       go (suc k) h (Cooperable n t) q = absurd (omega (arith, ap (λ z. z.kind) (q ∙ ap (λ e. e.answer) (is-violation input out work fine k h))))
       go (suc k) h (Refused r) q = absurd (omega (arith, ap (λ z. z.kind) (q ∙ ap (λ e. e.answer) (is-violation input out work fine k h))))
 
-  -- the arrays hold the recording
-  pub left-noted : (old a : Arrays) → a ≡ arrays_left input out work old → Noted input a (looked input old).transactions
-  left-noted old a is =
+  -- the array holds the recording
+  pub left-noted : (old xs : List Labelled) → xs ≡ records_left input out work old → Noted input xs (looked input old).transactions
+  left-noted old xs is =
       let sizes : first_fault (size_checks input out work) ≡ 0 = sizes-of input out work fine in
       let none : (looked input old).refusal.number ≡ 0 = looked-none input out work sizes fine old in
-      subst (λ b. Noted input b (looked input old).transactions) (sym (is ∙ arrays-looked input out work old sizes)) (looked-noted input old (looked input old) refl none)
+      subst (λ l. Noted input l (looked input old).transactions) (sym (is ∙ records-looked input out work old sizes)) (looked-noted input old (looked input old) refl none)
 
   -- the front of the order is what is named
   order-named : (order : List ℕ) → order_left input out work order ≡ over (named es (shortest es)) order
@@ -85,38 +80,32 @@ module _ (input out work : List ℕ) (fine : (refusal input out work).number ≡
   pub left-size : (order order' : List ℕ) → order' ≡ order_left input out work order → (k : ℕ) → k ≡ length (named es (shortest es)) → k ≡ length (take k order')
   left-size order order' is k count = count ∙ ap length (sym (left-named order order' is k count))
 
-  -- each line, by the arrays
-  pub line-is : (a : Arrays) (n : ℕ) → Noted input a n → (t : ℕ) → line_of (length input / 8) a.threads a.labels t ≡ Report.line es t
-  unfolding line_of Report.line
-  line-is a n f t =
-      let c : ℕ = length input / 8 in
-      let i : ℕ = first_from c a.labels t 0 in
-      let b = begun c es a.labels t (passed input out work fine).most i refl in
-      by_less i no_record
-      (λ low.
-      let x : Sought c es a.labels t _ _ = b.0 low in
-      let yes = lt-ltb i no_record low in
-      ap₂ (λ u v. t ∷ u ∷ v ∷ [])
-      (ap (λ z. cond z (get_or a.threads i 0) 0) yes ∙ f.threads-are i (first-low c a.labels t i refl low) ∙ sym x.thread-is ∙ ap (λ l. thread_of l t) f.owned-are)
-      (ap (λ z. cond z i 0) yes ∙ sym x.place_is ∙ ap (λ l. Report.first_record 0 l t) f.owned-are))
-      (λ high.
-      let x : Sought c es a.labels t 0 0 = b.1 high in
-      let no = le-ltb i no_record high in
-      ap₂ (λ u v. t ∷ u ∷ v ∷ [])
-      (ap (λ z. cond z (get_or a.threads i 0) 0) no ∙ sym x.thread-is ∙ ap (λ l. thread_of l t) f.owned-are)
-      (ap (λ z. cond z i 0) no ∙ sym x.place_is ∙ ap (λ l. Report.first_record 0 l t) f.owned-are))
+  -- there are as many records, and they are of few transactions
+  pub noted-size : (xs : List Labelled) (n : ℕ) → Noted input xs n → length input / 8 ≡ length (take (length input / 8) xs)
+  noted-size xs n f = sym (ap length f.are ∙ labelled-length none_yet es ∙ events-size input)
 
-  reported-fine : (lines : List ℕ) → reported input out work lines ≡ over (Report.lines es) lines
+  pub noted-front : (xs : List Labelled) (n : ℕ) → Noted input xs n → (length (take (length input / 8) xs) ≤ 1024) × Few (take (length input / 8) xs)
+  noted-front xs n f =
+      let p = passed input out work fine in (
+        omega (arith, noted-size xs n f, p.most),
+        λ i h. noted-few input p _ (subst (Among (get_or (take (length input / 8) xs) i past_end)) f.are (at-among (take (length input / 8) xs) i past_end h)),
+      )
+
+  reported-fine : (lines : List Line) → reported input out work lines ≡ over (Report.lines es) lines
   unfolding reported
   reported-fine lines = rw (fine, reported)
 
+  line-is : (a : ℕ) → line_of (labelled es) a ≡ Report.line es a
+  unfolding line_of Report.line
+  line-is a = refl
+
   -- so the lines that are written for the named transactions are those to be reported
-  pub reported-some : (a : Arrays) (n : ℕ) → Noted input a n → (order order' : List ℕ) → order' ≡ order_left input out work order → (k : ℕ) → k ≡ length (named es (shortest es))
-      → (lines lines' : List ℕ) → lines' ≡ over (each (line_of (length input / 8) a.threads a.labels) (take k order')) lines → lines' ≡ reported input out work lines
+  pub reported-some : (xs : List Labelled) (n : ℕ) → Noted input xs n → (order order' : List ℕ) → order' ≡ order_left input out work order → (k : ℕ) → k ≡ length (named es (shortest es))
+      → (lines lines' : List Line) → lines' ≡ over (map (line_of (take (length input / 8) xs)) (take k order')) lines → lines' ≡ reported input out work lines
   unfolding Report.lines
-  reported-some a n f order order' is k count lines lines' p =
+  reported-some xs n f order order' is k count lines lines' p =
       p
-      ∙ ap (λ l. over l lines) (ap₂ each (fun_ext (line-is a n f)) (left-named order order' is k count))
+      ∙ ap (λ l. over l lines) (ap₂ (λ ys l. map (line_of ys) l) f.are (left-named order order' is k count) ∙ ap (λ g. map g (named es (shortest es))) (fun_ext line-is))
       ∙ sym (reported-fine lines)
 
 -- Where no transaction is named, nothing is reported
@@ -137,12 +126,12 @@ module _ (input out work : List ℕ) (x : Answer) (o w : List ℕ) (is : left (n
       go zero h = h
       go (suc n) h = absurd (some (refused_none n h))
 
-  reported-at : (lines : List ℕ) (n : ℕ) → (refusal input out work).number ≡ suc n → reported input out work lines ≡ lines
+  reported-at : (lines : List Line) (n : ℕ) → (refusal input out work).number ≡ suc n → reported input out work lines ≡ lines
   unfolding reported
   reported-at lines n h = rw (h, reported)
 
-  pub told_none : named_in x ≡ 0 → (lines : List ℕ) → lines ≡ reported input out work lines
-  unfolding Report.lines each over
+  pub told_none : named_in x ≡ 0 → (lines : List Line) → lines ≡ reported input out work lines
+  unfolding Report.lines over
   told_none none lines = go (refusal input out work).number refl
     where
       empty : (l : List ℕ) → length l ≡ 0 → l ≡ []
@@ -150,6 +139,6 @@ module _ (input out work : List ℕ) (x : Answer) (o w : List ℕ) (is : left (n
       empty (y ∷ l) h = absurd (omega arith)
 
       go : (n : ℕ) → (refusal input out work).number ≡ n → lines ≡ reported input out work lines
-      go zero h = ap (λ l. over (each (Report.line (events input)) l) lines) (sym (empty (named (events input) (shortest (events input))) (sym (named_count input out work h x o w is) ∙ none)))
+      go zero h = ap (λ l. over (map (Report.line (events input)) l) lines) (sym (empty (named (events input) (shortest (events input))) (sym (named_count input out work h x o w is) ∙ none)))
           ∙ sym (reported-fine input out work h lines)
       go (suc n) h = sym (reported-at lines n h)

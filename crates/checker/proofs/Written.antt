@@ -1,7 +1,7 @@
 -- Laws of what is written, piece after piece.
 use Prim.Native.Nat.{ℕ, suc, ◌+◌, ◌*◌, ◌≤◌, ◌<◌}
 use native.Mathlib.Omega.{arith}
-use native.Mathlib.Nat.{zero-add, add_comm, mul-suc, mul-zero}
+use native.Mathlib.Nat.{add_comm, mul-suc, mul-zero}
 use native.Mathlib.Numerals.{add-one}
 use mathlib.Core.Path.{◌≡◌, refl, sym, ap, ap₂, ◌∙◌, subst}
 use mathlib.Core.List.{List, [], ◌∷◌, ◌++◌, append_assoc}
@@ -9,9 +9,6 @@ use lib.ListN.{length, get_or, set, take, drop, length-append, drop_of_length-le
 use lib.Seq.{drop-cons, sets-eq}
 use Rattle.lists.proofs.Places.{written-nothing, written_start, length-written, written-more}
 use Rattle.lists.specs.Lists.{each, over, written_at}
-use mathlib.Core.Bool.{cond}
-use lib.Dec.{ltb}
-use Rattle.checker.specs.Writing.{Numbering, no_record, first_from, line_of}
 
 -- Writing under way: of the whole, to be written from place n of out₀ on, the rest is still to be written, from place end of out on
 pub record Left (out₀ : List ℕ) (n : ℕ) (whole : List ℕ) (out : List ℕ) (end : ℕ) (rest : List ℕ) : Type 0 where
@@ -55,15 +52,6 @@ unfolding written_at
 two-stores l i a b h =
     ap (λ j. set (set l i a) j b) (add-one i) ∙ sets-eq (a ∷ b ∷ []) l i h ∙ append_assoc (take i l) (a ∷ b ∷ []) (drop (i + 2) l)
 
-three-stores : (l : List ℕ) (i a b c : ℕ) → i + 3 ≤ length l → set (set (set l i a) (i + 1) b) (i + 2) c ≡ written_at l i (a ∷ b ∷ c ∷ [])
-unfolding written_at
-three-stores l i a b c h =
-    ap₂ (λ (j k : ℕ). set (set (set l i a) j b) k c) (add-one i) (two i)
-    ∙ sets-eq (a ∷ b ∷ c ∷ []) l i h ∙ append_assoc (take i l) (a ∷ b ∷ c ∷ []) (drop (i + 3) l)
-  where
-    two : (i : ℕ) → i + 2 ≡ suc (suc i)
-    two i = omega arith
-
 -- ---- What is written for each number of a list
 
 -- for those from place k on
@@ -97,38 +85,15 @@ module _ (f : ℕ → List ℕ) (l out₀ : List ℕ) where
       subst (Going f l out₀ out' end') (sym (add-one k))
       (left-more out₀ 0 (each f l) out end (f (get_or l k 0)) (each_from f (suc k) l) out' end' (omega arith) (subst (Left out₀ 0 (each f l) out end) (each_next k h) g) p q)
 
-  pub going-place : (out : List ℕ) (end k : ℕ) → length l ≤ k → Going f l out₀ out end k → end ≡ length (each f l)
-  going-place out end k h g =
-      left-place out₀ 0 (each f l) out end (subst (Left out₀ 0 (each f l) out end) (each_none k h) g) ∙ zero-add (length (each f l))
-
   pub going_end : (out : List ℕ) (end k : ℕ) → length l ≤ k → Going f l out₀ out end k → out ≡ over (each f l) out₀
   going_end out end k h g =
       left-made out₀ 0 (each f l) out end (subst (Left out₀ 0 (each f l) out end) (each_none k h) g) ∙ written_start out₀ (each f l)
 
--- the same of each of n records
-pub each_within : (f g : ℕ → List ℕ) (n : ℕ) (l : List ℕ) → Numbering n l → ((i : ℕ) → i < n → f i ≡ g i) → each f l ≡ each g l
-unfolding each
-each_within f g n [] low same = refl
-each_within f g n (x ∷ l) low same = ap₂ ◌++◌ (same x (low 0 (omega arith))) (each_within f g n l (λ k h. low (suc k) (omega arith)) same)
-
 -- each has w numbers
-pub length-each : (f : ℕ → List ℕ) (w : ℕ) → ((a : ℕ) → length (f a) ≡ w) → (l : List ℕ) → length (each f l) ≡ w * length l
+pub length-each : {A : Type 0} (f : A → List ℕ) (w : ℕ) → ((a : A) → length (f a) ≡ w) → (l : List A) → length (each f l) ≡ w * length l
 unfolding each
 length-each f w h [] = sym (mul-zero w)
 length-each f w h (a ∷ l) =
     let p : length (f a ++ each f l) ≡ length (f a) + length (each f l) = length-append (f a) (each f l) in
     let q : length (each f l) ≡ w * length l = length-each f w h l in
     p ∙ ap₂ ◌+◌ (h a) q ∙ add_comm w (w * length l) ∙ sym (mul-suc w (length l))
-
-pub length-line : (n : ℕ) (threads labels : List ℕ) (a : ℕ) → length (line_of n threads labels a) ≡ 3
-unfolding line_of
-length-line n threads labels a = refl
-
--- a line stored, its first record known
-pub line-stored : (n : ℕ) (threads labels : List ℕ) (a f t k : ℕ) (l : List ℕ) (i : ℕ) → i + 3 ≤ length l → f ≡ first_from n labels a 0
-    → t ≡ cond (ltb f no_record) (get_or threads f 0) 0 → k ≡ cond (ltb f no_record) f 0
-    → set (set (set l i a) (i + 1) t) (i + 2) k ≡ written_at l i (line_of n threads labels a)
-unfolding line_of
-line-stored n threads labels a f t k l i h is p q =
-    three-stores l i a t k h
-    ∙ ap₂ (λ (x y : ℕ). written_at l i (a ∷ x ∷ y ∷ [])) (p ∙ ap (λ j. cond (ltb j no_record) (get_or threads j 0) 0) is) (q ∙ ap (λ j. cond (ltb j no_record) j 0) is)

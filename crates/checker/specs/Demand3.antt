@@ -1,7 +1,6 @@
 -- Demand 3: what the answer, and what is written, say of a recording that is not refused. Over swaps, and not over a graph.
-use Rattle.std.specs.Prelude.{ℕ, zero, suc, ◌≤◌, ◌≡◌, ◌↔◌, ◌⊎◌, List, [], ◌∷◌, map, length, drop, T}
+use Rattle.std.specs.Prelude.{ℕ, zero, suc, ◌≤◌, ◌≡◌, ◌↔◌, ◌⊎◌, List, [], ◌∷◌, map, length, drop, T, Ok}
 use Rattle.record.specs.declared.Event.{Event}
-use Rattle.record.specs.declared.Decoded.TheVariants.{Good}
 use Rattle.record.specs.Record.{decoded, two_bytes, records, records_of}
 use Rattle.replay.specs.Machine.{fresh, after, possible}
 use Rattle.trace.specs.Paths.{Cycle}
@@ -31,7 +30,7 @@ module _ (input out work : List ℕ) where
   -- From the fresh state it is possible, and ends in the recording's state: variables, locks, threads forked and joined, waits
   pub record Written : Type 0 where
     pub trace : List Event
-    pub decodes : map decoded (records answer.first left) ≡ map Good trace
+    pub decodes : map decoded (records answer.first left) ≡ map Ok trace
     pub as_many : length trace ≡ length (records_of input)
     pub reached : Swaps es trace
     pub serial : Serial trace

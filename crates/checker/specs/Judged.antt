@@ -1,17 +1,15 @@
 -- The whole promise: the answer, and what is left in the output and in the work area, of every input, output and work area.
-use Rattle.std.specs.Prelude.{ℕ, zero, suc, List, [], ◌∷◌, ◌++◌, length, replicate, leb}
-use Rattle.record.specs.declared.Refusal.{Refusal}
-use Rattle.record.specs.Faults.{Check, check}
+use Rattle.std.specs.Prelude.{ℕ, zero, suc, List, length, replicate}
+use Rattle.record.specs.Faults.{Refusal, Check}
 use Rattle.record.specs.Answers.{refused_as, Ending}
 use Rattle.lists.specs.Lists.{over}
 use Rattle.graph.specs.Transactions.{work_size}
-use Rattle.looking.specs.Refusals.{input_checks, refused_by, events}
+use Rattle.looking.specs.Refusals.{room_checks, refused_by, events}
 use Rattle.checker.specs.Verdict.{Verdict, verdict}
 
 -- 1 to 4, tried in that order: of the input, the output and the work area
 unfoldable pub size_checks : List ℕ → List ℕ → List ℕ → List Check
-size_checks input out work =
-    input_checks input ++ (check 3 0 (leb (length input) (length out)) ∷ check 4 0 (leb work_size (length work)) ∷ [])
+size_checks input out work = room_checks input (length input) out work
 
 -- 1 to 4, then the records
 unfoldable pub refusal : List ℕ → List ℕ → List ℕ → Refusal

@@ -6,4 +6,5 @@ pub mod Examples
 pub mod Left
 pub mod Writing
 pub mod Concluded
+pub mod Engines
 pub mod Meaning

@@ -1,7 +1,7 @@
 -- What is answered of a possible history (document 01, "What is answered").
 use Rattle.std.specs.Prelude.{ℕ, zero, suc, List, length}
 use Rattle.record.specs.declared.Event.{Event}
-use Rattle.record.specs.Answers.{Numbers, refused_as}
+use Rattle.record.specs.Answers.{Numbers, refusal_of, refused_as}
 use Rattle.record.specs.Record.{encoded, in_two}
 use Rattle.lists.specs.Lists.{each}
 use Rattle.graph.specs.Transactions.{transactions}
@@ -15,7 +15,7 @@ use Rattle.checker.specs.declared.Answer.TheVariants.{Cooperable, Violation, Ref
 abbrev pub numbers : Answer → Numbers
 numbers (Cooperable records transactions) = record { kind = 0; first = records; second = transactions }
 numbers (Violation place cycle) = record { kind = 1; first = place; second = cycle }
-numbers (Refused r) = refused_as r
+numbers (Refused r) = refused_as (refusal_of r)
 
 -- an answer, and the bytes that are written for it
 pub record Verdict : Type 0 where

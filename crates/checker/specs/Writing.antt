@@ -1,50 +1,46 @@
 -- What the checker's private functions promise one another about what they write.
 -- A reader of the public promises need not read this.
-use Rattle.std.specs.Prelude.{ℕ, zero, suc, ◌-◌, ◌*◌, ◌<◌, ◌≡◌, true, false, cond, List, [], ◌∷◌, eqb, ltb, length, get_or, take, drop}
-use Rattle.record.specs.Record.{record_size, event, encoded}
-use Rattle.lists.specs.Lists.{keep, first_of, from}
+use Rattle.std.specs.Prelude.{ℕ, suc, ◌<◌, ◌≡◌, true, false, List, [], ◌∷◌, eqb, length, get_or, drop}
+use Rattle.record.specs.Record.{encoded}
+use Rattle.lists.specs.Lists.{each}
+use Rattle.graph.specs.declared.Labelled.{Labelled}
+use Rattle.record.specs.declared.Op.TheVariants.{Read}
+use Rattle.graph.specs.Serial.{events_of, thread_of}
+use Rattle.checker.specs.declared.Line.{Line}
+use Rattle.checker.specs.Report.{first_record}
 
--- the bytes of record i of a recording
-abbrev pub record_in : List ℕ → ℕ → List ℕ
-record_in input i = take record_size (drop (record_size * i) input)
+-- what stands for a record past the end
+abbrev pub past_end : Labelled
+past_end = record { transaction = 0; event = record { thread = 0; op = Read 0 0 } }
 
--- what is written for it: the bytes of the event that it stands for
-abbrev pub bytes_in : List ℕ → ℕ → List ℕ
-bytes_in input i = encoded (event (record_in input i))
+-- each record is of one of 512 transactions
+abbrev pub Few : List Labelled → Type 0
+Few xs = (i : ℕ) → i < length xs → (get_or xs i past_end).transaction < 512
+
+-- what is written for transaction a: the bytes of its events
+abbrev pub bytes_of : List Labelled → ℕ → List ℕ
+bytes_of xs a = each encoded (events_of xs a)
+
+-- A transaction's line, by the records: its number, the thread of its first record, and that record
+unfoldable pub line_of : List Labelled → ℕ → Line
+line_of xs a = record { transaction = a; thread = thread_of xs a; first = first_record 0 xs a }
 
 -- ---- The records by number, linked
-
--- every number of a list is that of one of n records
-abbrev pub Numbering : ℕ → List ℕ → Type 0
-Numbering n l = (k : ℕ) → k < length l → get_or l k 0 < n
-
--- the numbers of the records of transaction a from record i on, of the first n
-unfoldable pub numbers_from : ℕ → List ℕ → ℕ → ℕ → List ℕ
-numbers_from n labels a i = keep (λ j. eqb (get_or labels j 0) a) (from i (n - i))
-
-abbrev pub numbers_of : ℕ → List ℕ → ℕ → List ℕ
-numbers_of n labels a = numbers_from n labels a 0
 
 -- what stands where there is no record
 abbrev pub no_record : ℕ
 no_record = 1024
 
--- the first of these numbers
-unfoldable pub first_from : ℕ → List ℕ → ℕ → ℕ → ℕ
-first_from n labels a i = first_of (λ j. eqb (get_or labels j 0) a) no_record (from i (n - i))
+-- the number of the first record of transaction a, where the first of the list is record k
+unfoldable pub first_in : ℕ → List Labelled → ℕ → ℕ
+first_in k [] a = no_record
+first_in k (x ∷ xs) a = elim (eqb x.transaction a) [ true ↦ k | false ↦ first_in (suc k) xs a ]
 
--- Arrays that link the first n records: each transaction's first, and after each record the next of its transaction
-pub record Linked (n : ℕ) (labels firsts nexts : List ℕ) : Type 0 where
-  pub first-is : (a : ℕ) → get_or firsts a no_record ≡ first_from n labels a 0
-  pub next-is : (i : ℕ) → i < n → get_or nexts i 0 ≡ first_from n labels (get_or labels i 0) (suc i)
+-- and of its first from record i on
+abbrev pub first_from : List Labelled → ℕ → ℕ → ℕ
+first_from xs a i = first_in i (drop i xs) a
 
--- record i, the next after it, and so on, at most k
-unfoldable pub chain : List ℕ → ℕ → ℕ → List ℕ
-chain nexts zero i = []
-chain nexts (suc k) i = elim (ltb i no_record) [ true ↦ i ∷ chain nexts k (get_or nexts i 0) | false ↦ [] ]
-
--- A transaction's line, by the threads and the labels of n records: its number, the thread of its first record, and that record
-unfoldable pub line_of : ℕ → List ℕ → List ℕ → ℕ → List ℕ
-line_of n threads labels a =
-    let i : ℕ = first_from n labels a 0 in
-    a ∷ cond (ltb i no_record) (get_or threads i 0) 0 ∷ cond (ltb i no_record) i 0 ∷ []
+-- Arrays that link the records: each transaction's first, and after each record the next of its transaction
+pub record Linked (xs : List Labelled) (firsts nexts : List ℕ) : Type 0 where
+  pub first-is : (a : ℕ) → get_or firsts a no_record ≡ first_from xs a 0
+  pub next-is : (i : ℕ) → i < length xs → get_or nexts i 0 ≡ first_from xs (get_or xs i past_end).transaction (suc i)

@@ -4,16 +4,13 @@ use native.Mathlib.Omega.{arith}
 use mathlib.Core.Path.{◌≡◌, refl, sym, ap, ap₂, subst, ◌∙◌}
 use mathlib.Core.Bool.{true, false, not, ◌&&◌}
 use mathlib.Core.List.{List, [], ◌∷◌, ◌++◌, append_assoc, append-nil}
-use lib.ListN.{length, get_or, set, take, drop, replicate, length-append, get_or-append}
-use lib.Seq.{take-append_seam}
+use lib.ListN.{length, get_or, length-append}
 use lib.Dec.{T, leb, ltb, eqb}
 use borrow.Author.Tests.{lt-ltb, le-ltb, le-leb, ltb-true, ltb-false, leb-true, leb-false, eqb-true, eq-eqb, not-true}
-use Rattle.lists.specs.Lists.{all_of, over}
+use Rattle.lists.specs.Lists.{all_of}
 use Rattle.lists.proofs.Tests.{by, and-true}
 use Rattle.lists.proofs.Lists.{all_none, all_first, all_more, all_both}
-use Rattle.lists.proofs.Places.{over-more}
-use Rattle.decimal.specs.declared.Digits.{Digits}
-use Rattle.decimal.specs.Decimal.{digit, digits, decimal, written, is_digit, value_from, value_of, zero_led, is_number}
+use Rattle.decimal.specs.Decimal.{digit, digits, decimal, is_digit, value_from, value_of, zero_led, is_number}
 
 -- ---- How a number is written
 
@@ -160,9 +157,6 @@ reads limit w h =
     let c = and-true (all_of is_digit w) (leb (value_of w) limit) b.1 in
     record { some = leb-true 1 (length w) a.0; led = not-true (zero_led w) b.0; all_digits = c.0; within = leb-true (value_of w) limit c.1 }
 
-pub number_digits : (limit : ℕ) (w : List ℕ) → is_number limit w ≡ true → all_of is_digit w ≡ true
-number_digits limit w h = (reads limit w h).all_digits
-
 pub number-within : (limit : ℕ) (w : List ℕ) → is_number limit w ≡ true → value_of w ≤ limit
 number-within limit w h = (reads limit w h).within
 
@@ -216,45 +210,8 @@ size-two n h = size_step n 10 1 h (size-one (n / 10)) (omega arith)
 pub size-three : (n : ℕ) → n < 1000 → length (decimal n) ≤ 3
 size-three n h = size_step n 100 2 h (size-two (n / 10)) (omega arith)
 
+pub size-four : (n : ℕ) → n < 10000 → length (decimal n) ≤ 4
+size-four n h = size_step n 1000 3 h (size-three (n / 10)) (omega arith)
+
 pub size-five : (n : ℕ) → n < 100000 → length (decimal n) ≤ 5
-size-five n h = size_step n 10000 4 h (λ g. size_step (n / 10) 1000 3 g (size-three (n / 10 / 10)) (omega arith)) (omega arith)
-
--- ---- In five bytes
-
--- one digit
-pub written_one : (n : ℕ) → n < 10 → record { bytes = set (replicate 5 0) 0 (digit n); len = 1 } ≡ written n
-unfolding written over
-written_one n h = ap (λ w. record { bytes = w ++ drop (length w) (replicate 5 0); len = length w }) (sym (decimal-small n h))
-
--- the digits of the tenth, and the last digit
-pub written-more : (n : ℕ) → 10 ≤ n → n < 65536 → (r : Digits) → r ≡ written (n / 10) → record { bytes = set r.bytes r.len (digit (n % 10)); len = r.len + 1 } ≡ written n
-unfolding written
-written-more n h k r e =
-    let w : List ℕ = decimal (n / 10) in
-    let short : length w ≤ 4 = size_step (n / 10) 1000 3 (omega arith) (size-three (n / 10 / 10)) (omega arith) in
-    ap (λ (x : Digits). record { bytes = set x.bytes x.len (digit (n % 10)); len = x.len + 1 }) e
-    ∙ ap₂ (λ (b : List ℕ) (m : ℕ). record { bytes = b; len = m }) (over-more w (replicate 5 0) (digit (n % 10)) (omega arith)) (sym (length-append w (digit (n % 10) ∷ [])))
-    ∙ ap (λ v. record { bytes = over v (replicate 5 0); len = length v }) (sym (decimal-more n h))
-
-pub written-short : (n : ℕ) → n < 10000 → (r : Digits) → r ≡ written n → r.len < 5
-unfolding written
-written-short n h r e = omega (arith, ap (λ x. x.len) e, size_step n 1000 3 h (size-three (n / 10)) (omega arith))
-
--- what a caller knows of them
-pub written-size : (n : ℕ) (r : Digits) → r ≡ written n → r.len ≡ length (decimal n)
-unfolding written
-written-size n r e = ap (λ x. x.len) e
-
-pub written-digits : (n : ℕ) (r : Digits) → r ≡ written n → take r.len r.bytes ≡ decimal n
-unfolding written over
-written-digits n r e = ap (λ (x : Digits). take x.len x.bytes) e ∙ take-append_seam (decimal n) (drop (length (decimal n)) (replicate 5 0))
-
-pub written-room : (n : ℕ) (r : Digits) → r ≡ written n → r.len ≤ length r.bytes
-unfolding written over
-written-room n r e =
-    let w : List ℕ = decimal n in
-    subst (λ (x : Digits). x.len ≤ length x.bytes) (sym e) (omega (arith, length-append w (drop (length w) (replicate 5 0))))
-
-pub written-digit : (n : ℕ) (r : Digits) (j : ℕ) → r ≡ written n → j < length (decimal n) → get_or r.bytes j 0 ≡ get_or (decimal n) j 0
-unfolding written over
-written-digit n r j e h = ap (λ (x : Digits). get_or x.bytes j 0) e ∙ get_or-append (decimal n) (drop (length (decimal n)) (replicate 5 0)) 0 j h
+size-five n h = size_step n 10000 4 h (size-four (n / 10)) (omega arith)

@@ -1,7 +1,6 @@
 -- Decimal numbers without leading zeros, as bytes of ASCII: how one is written, and which words are one.
-use Rattle.std.specs.Prelude.{ℕ, zero, suc, ◌+◌, ◌-◌, ◌*◌, ◌/◌, ◌%◌, Bool, true, false, not, ◌&&◌, List, [], ◌∷◌, ◌++◌, length, get_or, replicate, leb, ltb, eqb}
-use Rattle.lists.specs.Lists.{all_of, over}
-use Rattle.decimal.specs.declared.Digits.{Digits}
+use Rattle.std.specs.Prelude.{ℕ, zero, suc, ◌+◌, ◌-◌, ◌*◌, ◌/◌, ◌%◌, Bool, true, false, not, ◌&&◌, List, [], ◌∷◌, ◌++◌, length, get_or, leb, ltb, eqb}
+use Rattle.lists.specs.Lists.{all_of}
 
 -- the byte of a digit
 abbrev pub digit : ℕ → ℕ
@@ -15,10 +14,6 @@ digits (suc k) n = elim (ltb n 10) [ true ↦ digit n ∷ [] | false ↦ digits 
 -- A number as it is written: n + 1 digits are always enough
 unfoldable pub decimal : ℕ → List ℕ
 decimal n = digits n n
-
--- the digits of a number below 65,536 in five bytes, as code hands them on: those past them are 0
-unfoldable pub written : ℕ → Digits
-written n = record { bytes = over (decimal n) (replicate 5 0); len = length (decimal n) }
 
 -- whether a byte is one of the ten digits
 unfoldable pub is_digit : ℕ → Bool
@@ -42,5 +37,5 @@ is_number limit w = leb 1 (length w) && (not (zero_led w) && (all_of is_digit w 
 
 -- Everything above, opened at once, for a proof by computation: `unfolding opened`
 unfoldable pub opened : Unit {0}
-unfolding digits decimal written is_digit value_from zero_led is_number all_of
+unfolding digits decimal is_digit value_from zero_led is_number all_of
 opened = tt

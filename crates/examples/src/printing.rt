@@ -3,28 +3,14 @@ ghost use Rattle.std.specs.Prelude.{◌≤◌, length};
 
 use std::io;
 
-// A word on a line of its own.
-pub fn print_word(rt: &impl Print, word: &[u8]) -> io::Result<()> {
-    rt.write_all(word)?;
-    println!(rt)
-}
-
-// A word and two numbers.
-pub fn print_answer(rt: &impl Print, word: &[u8], first: usize, second: usize) -> io::Result<()> {
-    rt.write_all(word)?;
-    println!(rt; " {first} {second}")
-}
-
 // Where the bytes that are not 0xEE end.
 fn written_end(out: &[u8]) -> usize
     ensures { result ≤ length out.now }
 {
-    let mut n = out.len();
-    while 0 < n {
-        if out[n - 1] != 0xee {
-            return n;
+    for n in (0..out.len()).rev() {
+        if out[n] != 0xee {
+            return n + 1;
         }
-        n -= 1;
     }
     0
 }
@@ -43,10 +29,8 @@ fn print_byte(rt: &impl Print, i: usize, byte: u8) -> io::Result<()> {
 // All bytes up to the last that is not 0xEE.
 pub fn print_out(rt: &impl Print, out: &[u8]) -> io::Result<()> {
     let end = written_end(out);
-    let mut i = 0;
-    while i < end {
-        print_byte(rt, i, out[i])?;
-        i += 1;
+    for (i, &byte) in out[..end].iter().enumerate() {
+        print_byte(rt, i, byte)?;
     }
     if 0 < end {
         println!(rt)?;
@@ -56,18 +40,11 @@ pub fn print_out(rt: &impl Print, out: &[u8]) -> io::Result<()> {
 
 // How many numbers of the work area are n.
 fn count_of(work: &[u64], n: u64) -> usize {
-    let mut count = 0;
-    let mut i = 0;
-    while i < work.len() {
-        if work[i] == n {
-            count += 1;
-        }
-        i += 1;
-    }
-    count
+    work.iter().filter(|x| **x == n).count()
 }
 
 // How many numbers of the work area are 0, and how many are still 0x77.
 pub fn print_work(rt: &impl Print, work: &[u64]) -> io::Result<()> {
-    print_answer(rt, b"work", count_of(work, 0), count_of(work, 0x77))
+    let (zeros, kept) = (count_of(work, 0), count_of(work, 0x77));
+    println!(rt; "work {zeros} {kept}")
 }

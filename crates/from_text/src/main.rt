@@ -3,14 +3,10 @@
 // all the input is refused 2. Otherwise the first part tells the answer of the whole (text/proofs/Right, `long-text`).
 #![tactic(auto)]
 
-use record::Refusal;
+use record::{Fault, Refusal};
 use std::io;
 use std::io::Read;
-use text::Outcome;
-
-fn print_refusal(rt: &impl Print, refusal: Refusal) -> io::Result<()> {
-    println!(rt; "refused {} {}", refusal.number, refusal.place)
-}
+use text::{line_feeds, read_text};
 
 // A piece of the input: how many bytes it has, and how many of them are line feeds.
 #[derive(Clone, Copy)]
@@ -22,7 +18,7 @@ struct Piece {
 fn next_piece(reader: &mut impl Read) -> io::Result<Piece> {
     let mut piece = [0u8; 32768];
     let bytes = reading::read_full(reader, &mut piece)?;
-    let feeds = text::line_feeds(&piece[..bytes]);
+    let feeds = line_feeds(&piece[..bytes]);
     Ok(Piece { bytes, feeds })
 }
 
@@ -48,23 +44,18 @@ fn main(rt: HostRuntime) -> io::Result<()> {
     let mut input = [0u8; 32768];
     let mut out = [0u8; 8192];
     let n = reading::read_full(&mut reader, &mut input)?;
-    let feeds = text::line_feeds(&input[..n]);
+    let feeds = line_feeds(&input[..n]);
     if n == 32768 && feeds <= 1024 && rest_has_over(&mut reader, 1024 - feeds)? {
-        return print_refusal(
-            &rt,
-            Refusal {
-                number: 2,
-                place: 0,
-            },
-        );
+        let refusal = Refusal::from(Fault::TooLong);
+        return println!(rt; "refused {refusal}");
     }
-    match text::read_text(&input[..n], &mut out) {
-        Outcome::Done { bytes } => {
+    match read_text(&input[..n], &mut out) {
+        Ok(bytes) => {
             if bytes <= 8192 {
                 rt.write_all(&out[..bytes])?;
             }
         }
-        Outcome::Refused(refusal) => print_refusal(&rt, refusal)?,
+        Err(refusal) => println!(rt; "refused {refusal}")?,
     }
     Ok(())
 }

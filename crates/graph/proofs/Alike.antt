@@ -16,14 +16,19 @@ use Rattle.trace.specs.Paths.{Edge, cyclic}
 use Rattle.trace.specs.Order.{taking}
 use Rattle.graph.specs.Conflict as Conflict
 use Rattle.graph.specs.Conflict.{conflict}
-use Rattle.graph.specs.Transactions.{Tally, Labelled, none_yet, current_of, begins, belongs, ends, tallied, labelled, labelled_from, tally_from, transactions}
+use Rattle.graph.specs.declared.Labelled.{Labelled}
+use Rattle.graph.specs.declared.Tally.{Tally}
+use Rattle.graph.specs.Transactions.{none_yet, current_of, begins, belongs, ends, tallied, labelled, labelled_from, tally_from, transactions}
 use Rattle.graph.specs.Edges.{makes, edges_of, edges}
 use Rattle.graph.specs.Violation.{edges_up_to, cyclic_up_to, shortest, transaction_at, walk, cycle_of}
 use Rattle.graph.specs.Serial.{thread_of, serial_order}
 use Rattle.graph.specs.Named.{named}
-pub use Rattle.graph.specs.Held.{shown_of}
 use Rattle.graph.specs.Held.{labelled_as}
 use Rattle.graph.proofs.Clash.{in_words}
+
+-- an operation by its thread, kind and target alone: without its value
+abbrev pub shown_of : Event → Event
+shown_of e = record { thread = e.thread; op = operation (kind e.op) (target e.op) 0 }
 
 -- two operations that the graph doesn't tell apart
 pub record Alike (a b : Event) : Type 0 where

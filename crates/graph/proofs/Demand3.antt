@@ -14,7 +14,8 @@ use Rattle.record.specs.declared.Event.{Event}
 use Rattle.lists.specs.Lists.{some_of, from}
 use Rattle.trace.specs.Paths.{PathAlong, Cycle, cyclic}
 use Rattle.graph.specs.Conflict.{conflict}
-use Rattle.graph.specs.Transactions.{none_yet, Labelled, labelled_from, labelled, transactions}
+use Rattle.graph.specs.declared.Labelled.{Labelled}
+use Rattle.graph.specs.Transactions.{none_yet, labelled_from, labelled, transactions}
 use Rattle.graph.specs.Swaps.{Swaps, Serial}
 use Rattle.graph.specs.Edges.{edges}
 use Rattle.graph.specs.Serial.{thread_of, serial_order, serial_trace}

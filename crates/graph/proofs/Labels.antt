@@ -12,7 +12,9 @@ use lib.Dec.{T, T_not, eqb, eqb→eq, eqb_refl, eqb-suc-zero}
 use Rattle.record.specs.declared.Event.{Event}
 use Rattle.trace.specs.Swaps.{Swap, Swaps}
 use Rattle.graph.specs.Conflict.{joins, conflict}
-use Rattle.graph.specs.Transactions.{Tally, none_yet, current_of, begins, belongs, ends, tallied, Labelled, labelled_from, labelled}
+use Rattle.graph.specs.declared.Labelled.{Labelled}
+use Rattle.graph.specs.declared.Tally.{Tally}
+use Rattle.graph.specs.Transactions.{none_yet, current_of, begins, belongs, ends, tallied, labelled_from, labelled}
 use Rattle.lists.proofs.Tests.{by, T_of, T-is}
 use Rattle.lists.proofs.Lists.{map-map}
 use Rattle.trace.proofs.Swaps.{swaps-lift}

@@ -12,7 +12,8 @@ use Rattle.lists.specs.Lists.{some_of, from}
 use Rattle.trace.specs.Paths.{has_edge, PathAlong, Cycle, cyclic}
 use Rattle.trace.proofs.Together.{Edge}
 use Rattle.trace.proofs.Reach.{cycle-means, cycle-made}
-use Rattle.graph.specs.Transactions.{Labelled, none_yet, labelled_from, labelled}
+use Rattle.graph.specs.declared.Labelled.{Labelled}
+use Rattle.graph.specs.Transactions.{none_yet, labelled_from, labelled}
 use Rattle.graph.specs.Edges.{edges}
 use Rattle.graph.specs.Violation.{edges_up_to, cyclic_up_to, shortest}
 use Rattle.graph.proofs.Ends.{clash, owner, has-pair, edge-has}
@@ -32,7 +33,7 @@ path-stays : (j : ℕ) (xs : List Labelled) {a b : ℕ} → PathAlong (edges (ta
 path-stays j xs PathAlong.here = PathAlong.here
 path-stays j xs (PathAlong.there {a} {b} h p) = PathAlong.there (edge-made xs a b (edge-take j xs (edge-means (take j xs) a b h))) (path-stays j xs p)
 
-take-take : {A : Type 0} (j k : ℕ) (l : List A) → j ≤ k → take j (take k l) ≡ take j l
+pub take-take : {A : Type 0} (j k : ℕ) (l : List A) → j ≤ k → take j (take k l) ≡ take j l
 take-take zero k l h = refl
 take-take (suc j) zero l h = absurd (omega arith)
 take-take (suc j) (suc k) [] h = refl

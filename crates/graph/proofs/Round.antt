@@ -13,7 +13,9 @@ use Rattle.record.specs.declared.Event.{Event}
 use Rattle.record.specs.declared.Op.TheVariants.{Yield}
 use Rattle.lists.specs.Lists.{some_of, keep, first_of, from, below}
 use Rattle.trace.specs.Paths.{Edge, has_edge, PathAlong, reaches, cyclic}
-use Rattle.graph.specs.Transactions.{Tally, none_yet, tallied, Labelled, labelled_from, labelled, transactions}
+use Rattle.graph.specs.declared.Labelled.{Labelled}
+use Rattle.graph.specs.declared.Tally.{Tally}
+use Rattle.graph.specs.Transactions.{none_yet, tallied, labelled_from, labelled, transactions}
 use Rattle.graph.specs.Edges.{makes, edges}
 use Rattle.graph.specs.Rule.{Closes, Leads, Follows, Reported}
 use Rattle.graph.specs.Violation.{edges_up_to, cyclic_up_to, shortest, transaction_at, closes, onward, walk, cycle_of}

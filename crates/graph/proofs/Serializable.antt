@@ -9,7 +9,8 @@ use Rattle.record.specs.declared.Event.{Event}
 use Rattle.lists.specs.Lists.{keep, each}
 use Rattle.trace.specs.Swaps.{Together}
 use Rattle.trace.specs.Paths.{cyclic}
-use Rattle.graph.specs.Transactions.{Labelled, labelled, transactions}
+use Rattle.graph.specs.declared.Labelled.{Labelled}
+use Rattle.graph.specs.Transactions.{labelled, transactions}
 use Rattle.graph.specs.Swaps.{Serial}
 use Rattle.graph.specs.Edges.{edges}
 use Rattle.graph.specs.Serial.{events_of, thread_of, serial_order, serial_trace}

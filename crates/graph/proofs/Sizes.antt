@@ -11,7 +11,8 @@ use Rattle.lists.proofs.Tests.{by}
 use Rattle.trace.proofs.Swaps.{length-swaps}
 use Rattle.trace.proofs.Sizes.{taking-size}
 use Rattle.graph.specs.Conflict.{conflict}
-use Rattle.graph.specs.Transactions.{Tally, none_yet, begins, tallied, tally_from, labelled, transactions}
+use Rattle.graph.specs.declared.Tally.{Tally}
+use Rattle.graph.specs.Transactions.{none_yet, begins, tallied, tally_from, labelled, transactions}
 use Rattle.graph.specs.Edges.{edges}
 use Rattle.graph.specs.Serial.{thread_of, serial_order, serial_trace}
 use Rattle.graph.specs.Violation.{edges_up_to, transaction_at, shortest, closes, onward, walk, cycle_of}

@@ -4,7 +4,7 @@ use Prim.Native.Nat.{ℕ, zero, suc}
 use mathlib.Core.Path.{◌≡◌, refl}
 use mathlib.Core.List.{List, [], ◌∷◌, ◌++◌}
 use lib.ListN.{replicate}
-use Rattle.record.specs.declared.Refusal.{Refusal}
+use Rattle.record.specs.Faults.{Refusal}
 use Rattle.record.specs.Faults as Faults
 use Rattle.record.specs.Record as Record
 use Rattle.replay.specs.Machine as Machine

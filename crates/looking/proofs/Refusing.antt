@@ -10,7 +10,8 @@ use borrow.Author.Tests.{eqb-true, leb-true}
 use Rattle.record.specs.Faults.{Check, first_fault}
 use Rattle.record.specs.Record.{event, records_of}
 use Rattle.record.proofs.Laws.{Counted, none_first, first-of-both, second-of-both}
-use Rattle.looking.specs.Refusals.{input_checks, Run, start, onwards, record_checks, first_refusal, refused_by}
+use Rattle.looking.specs.declared.seeing.Run.{Run}
+use Rattle.looking.specs.Refusals.{input_checks, start, onwards, record_checks, first_refusal, refused_by}
 
 -- ---- Numbers 1 and 2
 

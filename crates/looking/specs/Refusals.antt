@@ -1,23 +1,22 @@
 -- When a recording is refused, with which number and at which record (document 01, "Numbers of refusal").
 use Rattle.std.specs.Prelude.{ℕ, zero, suc, ◌%◌, not, List, [], ◌∷◌, ◌++◌, map, length, leb, eqb}
 use Rattle.record.specs.declared.Event.{Event}
-use Rattle.record.specs.declared.Refusal.{Refusal}
-use Rattle.record.specs.Faults.{Check, check, first_fault}
+use Rattle.record.specs.Faults.{Refusal, Check, check, first_fault}
 use Rattle.record.specs.Record as Record
 use Rattle.record.specs.Record.{record_size, records_of}
-use Rattle.replay.specs.declared.State.{State}
+use Rattle.looking.specs.declared.seeing.Run.{Run}
 use Rattle.replay.specs.Machine as Machine
-use Rattle.graph.specs.Transactions.{Tally, none_yet, full, tallied}
+use Rattle.graph.specs.Transactions.{none_yet, full, tallied, work_size}
 
 -- 1 and 2, tried in that order: whatever reads a recording tries them first
 unfoldable pub input_checks : List ℕ → List Check
 input_checks input = check 1 0 (eqb (length input % record_size) 0) ∷ check 2 0 (leb (length input) 8192) ∷ []
 
--- What the records so far have led to: the machine's state, and the transactions begun
-pub record Run : Type 0 where
-  pub state : State
-  pub tally : Tally
+-- 1 to 4, tried in that order: 3 where the output has less than some room, 4 where the work area is too small
+abbrev pub room_checks : List ℕ → ℕ → List ℕ → List ℕ → List Check
+room_checks input room out work = input_checks input ++ (check 3 0 (leb room (length out)) ∷ check 4 0 (leb work_size (length work)) ∷ [])
 
+-- What the records so far have led to: the machine's state, and the transactions begun
 unfoldable pub start : Run
 start = record { state = Machine.fresh; tally = none_yet }
 

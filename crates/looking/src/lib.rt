@@ -1,54 +1,61 @@
-// Looking through a recording, once: whether it is refused, and up to there what the graph sees of each record, and its transaction.
+// Looking through a recording, once: whether it is refused, and up to there each operation with its transaction.
 #![tactic(auto)]
 
 mod seeing;
 
 ghost use Rattle.std.specs.Prelude.{◌≡◌};
 ghost use Rattle.record.specs.Faults.{first_fault};
-ghost use Rattle.looking.specs.Refusals.{input_checks};
-ghost use Rattle.looking.specs.Looked.{Looking, looked, arrays_of};
+ghost use Rattle.record.specs.Answers.{number_in, refusal_in};
+ghost use Rattle.looking.specs.Refusals.{input_checks, room_checks};
+ghost use Rattle.looking.specs.Looked.{Looking, looked};
 
-use record::Refusal;
+use graph::Labelled;
+use record::{Fault, Refusal};
 
-// What is found in a recording: the refusal, none where its number is 0, and how many transactions begin before it.
+// What is found in a recording: why it is refused, if it is, and how many transactions begin before that.
 #[derive(Clone, Copy)]
 pub struct Looked {
-    pub refusal: Refusal,
+    pub refusal: Option<Refusal>,
     pub transactions: u16,
 }
 
-// Numbers 1 and 2, tried in that order; 0 where none is given. Whatever reads a recording tries them first.
-pub fn input_fault(input: &[u8]) -> u8
-    ensures { result ≡ first_fault (input_checks input.now) }
+// Numbers 1 and 2, tried in that order. Whatever reads a recording tries them first.
+pub fn check_input(input: &[u8]) -> Result<(), Fault>
+    ensures { number_in result ≡ first_fault (input_checks input.now) }
 {
     if input.len() % 8 != 0 {
-        return 1;
+        return Err(Fault::Length);
     }
     if 8192 < input.len() {
-        return 2;
+        return Err(Fault::TooLong);
     }
-    0
+    Ok(())
 }
 
-// Looks at all records, up to the first with a fault. The fronts of the arrays then have the thread, the kind, the target and the transaction of each
-// before it.
-pub fn look(
-    input: &[u8],
-    threads: &mut [u8; 1024],
-    kinds: &mut [u8; 1024],
-    targets: &mut [u8; 1024],
-    labels: &mut [u16; 1024],
-) -> Looked
-    ensures { ◌≡◌ {A = Looking} (record {
-      refusal = result.refusal;
-      transactions = result.transactions;
-      arrays = arrays_of threads.new kinds.new targets.new labels.new;
-    })
-        (looked input.now (arrays_of threads.old kinds.old targets.old labels.old)) }
+// Numbers 1 to 4, tried in that order, where the output must have so much room.
+pub fn check_room(input: &[u8], room: usize, out: &[u8], work: &[u64]) -> Result<(), Fault>
+    ensures { number_in result ≡ first_fault (room_checks input.now room out.now work.now) }
 {
-    let number = input_fault(input);
-    if number != 0 {
-        return seeing::found(number, 0, 0);
+    check_input(input)?;
+    if out.len() < room {
+        return Err(Fault::Output);
     }
-    seeing::see_all(input, threads, kinds, targets, labels)
+    if work.len() < 4096 {
+        return Err(Fault::WorkArea);
+    }
+    Ok(())
+}
+
+// Looks at all records, up to the first with a fault. The front of the array then has each record before it, with its transaction.
+pub fn look(input: &[u8], records: &mut [Labelled; 1024]) -> Looked
+    ensures { ◌≡◌ {A = Looking} (record { refusal = refusal_in result.refusal; transactions = result.transactions; records = records.new })
+        (looked input.now records.old) }
+{
+    match check_input(input) {
+        Ok(()) => seeing::see_all(input, records),
+        Err(fault) => Looked {
+            refusal: Some(Refusal::from(fault)),
+            transactions: 0,
+        },
+    }
 }

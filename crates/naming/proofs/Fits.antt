@@ -1,22 +1,22 @@
--- What is named of the records that arrays hold, where they fit and where they don't: the laws that the code cites.
-use Prim.Native.Nat.{ℕ, suc, ◌-◌, ◌<◌, ◌≤◌}
+-- What is named of the records, where they fit and where they don't: the laws that the code cites.
+use Prim.Native.Nat.{ℕ, suc, ◌+◌, ◌<◌, ◌≤◌, min}
 use native.Mathlib.Omega.{arith}
-use mathlib.Core.Path.{◌≡◌, sym, ap, ap₂, ◌∙◌}
+use native.Mathlib.Numerals.{add-one}
+use mathlib.Core.Path.{◌≡◌, sym, ap, ap₂, ◌∙◌, subst}
 use mathlib.Core.Bool.{true, false, ◌&&◌, and-false}
 use mathlib.Core.List.{List, [], map}
-use lib.ListN.{length, get_or, take}
-use lib.Dec.{ltb, leb}
-use borrow.Author.Tests.{lt-ltb, le-ltb, le-leb, lt-leb}
-use Rattle.record.specs.declared.Event.{Event}
+use lib.ListN.{length, get_or, take, get_or-map}
+use lib.Dec.{ltb, leb, leb→le}
+use lib.Seq.{take_all}
+use borrow.Author.Tests.{lt-ltb, le-ltb, le-leb, lt-leb, leb-false}
 use Rattle.lists.specs.Lists.{over}
+use Rattle.lists.proofs.Tests.{by, T_of}
 use Rattle.rows.specs.Bits.{has}
-use Rattle.graph.specs.Transactions.{Labelled, transaction_limit, work_size}
+use Rattle.graph.specs.declared.Labelled.{Labelled}
+use Rattle.graph.specs.Transactions.{transaction_limit, work_size}
 use Rattle.graph.specs.Edges.{edges}
 use Rattle.graph.specs.Serial.{thread_of}
-use Rattle.graph.specs.Held.{held}
-use Rattle.graph.proofs.Round.{blank, number_at}
-use Rattle.graph.proofs.Held.{length-held, held-take, held_at}
-use Rattle.naming.specs.Naming.{order_by, walk_by, cycle_by, fits, named_by}
+use Rattle.naming.specs.Naming.{order_by, walk_by, past_end, transaction_at, cycle_by, fits, named_by}
 
 -- ---- nothing is named where they don't fit
 
@@ -73,32 +73,30 @@ module _ (xs : List Labelled) (n : ℕ) (work : List ℕ) (few : n ≤ transacti
   unfolding named_by
   named-cycle k h = rw (fit (suc k) (omega arith), named_by)
 
--- the cycle of the first p records that arrays hold
-module _ (n count : ℕ) (all : List Event) (labels : List ℕ) (p : ℕ) (work : List ℕ) (few : n ≤ transaction_limit) (long : work_size ≤ length work) (some : 0 < p) (inside : p ≤ count) where
-  abbrev xs : List Labelled
-  xs = held count all labels
+-- of the records those up to record i, which is of t
+module _ (xs : List Labelled) (n i t : ℕ) (work : List ℕ) (few : n ≤ transaction_limit) (long : work_size ≤ length work) (inside : i < length xs) (is : t ≡ transaction_at xs i) where
+  last-is : t ≡ last xs n i work
+  last-is = is ∙ sym (get_or-map (λ x. x.transaction) xs i past_end)
 
-  is_last : p ≡ suc (p - 1)
-  is_last = omega arith
+  named-last : named_by xs n (suc i) work ≡ cycle_by xs n i work
+  named-last = named-cycle xs n work few long i inside
 
-  last-is : last xs n (p - 1) work ≡ get_or labels (p - 1) 0
-  last-is = number_at xs (p - 1) ∙ ap (λ x. x.transaction) (held_at (p - 1) count all labels blank (omega arith))
+  pub cycle-named : t < n → has work t t ≡ true → walk_by (edges (take (i + 1) xs)) work t n t ≡ named_by xs n (suc i) work
+  cycle-named h own =
+      ap₂ (λ k d. walk_by (edges (take k xs)) work d n d) (add-one i) last-is
+      ∙ sym (named-last ∙ cycle-goes xs n i work (subst (λ d. d < n) last-is h) (ap (λ d. has work d d) (sym last-is) ∙ own))
 
-  named-last : named_by xs n p work ≡ cycle_by xs n (p - 1) work
-  named-last = ap (λ j. named_by xs n j work) is_last ∙ named-cycle xs n work few long (p - 1) (omega (arith, length-held count all labels))
+  nothing-last : (ltb t n && has work t t) ≡ false → named_by xs n (suc i) work ≡ []
+  nothing-last e = named-last ∙ cycle-none xs n i work (ap (λ d. ltb d n && has work d d) (sym last-is) ∙ e)
 
-  pub cycle-held : get_or labels (p - 1) 0 < n → has work (get_or labels (p - 1) 0) (get_or labels (p - 1) 0) ≡ true
-      → walk_by (edges (held p all labels)) work (get_or labels (p - 1) 0) n (get_or labels (p - 1) 0) ≡ named_by xs n p work
-  cycle-held h own =
-      let g : edges (take (suc (p - 1)) xs) ≡ edges (held p all labels) = ap (λ j. edges (take j xs)) (sym is_last) ∙ ap edges (held-take p count all labels inside) in
-      ap₂ (λ d t. walk_by d work t n t) (sym g) (sym last-is)
-      ∙ sym (named-last ∙ cycle-goes xs n (p - 1) work (omega (arith, h, last-is)) (ap (λ t. has work t t) last-is ∙ own))
+  pub nothing-outside : n ≤ t → named_by xs n (suc i) work ≡ []
+  nothing-outside h = nothing-last (ap (λ b. b && has work t t) (le-ltb t n h))
 
-  none-held : (ltb (get_or labels (p - 1) 0) n && has work (get_or labels (p - 1) 0) (get_or labels (p - 1) 0)) ≡ false → named_by xs n p work ≡ []
-  none-held e = named-last ∙ cycle-none xs n (p - 1) work (ap (λ t. ltb t n && has work t t) last-is ∙ e)
+  pub nothing-away : has work t t ≡ false → named_by xs n (suc i) work ≡ []
+  nothing-away e = nothing-last (ap (λ b. ltb t n && b) e ∙ and-false (ltb t n))
 
-  pub nothing-outside : n ≤ get_or labels (p - 1) 0 → named_by xs n p work ≡ []
-  nothing-outside h = none-held (ap (λ b. b && has work (get_or labels (p - 1) 0) (get_or labels (p - 1) 0)) (le-ltb (get_or labels (p - 1) 0) n h))
-
-  pub nothing-away : has work (get_or labels (p - 1) 0) (get_or labels (p - 1) 0) ≡ false → named_by xs n p work ≡ []
-  nothing-away e = none-held (ap (λ b. ltb (get_or labels (p - 1) 0) n && b) e ∙ and-false (ltb (get_or labels (p - 1) 0) n))
+-- the first 1,024 records, or all where there are fewer
+pub first_ones : (k : ℕ) (xs : List Labelled) → k ≡ min (length xs) 1024 → take k xs ≡ take 1024 xs
+first_ones k xs is = by (leb 1024 (length xs))
+    (λ e. let many : 1024 ≤ length xs = leb→le 1024 (length xs) (T_of e) in let all : k ≡ 1024 = omega (arith, is, many) in ap (λ j. take j xs) all)
+    (λ e. let fewer : length xs < 1024 = leb-false 1024 (length xs) e in take_all k xs (omega (arith, is, fewer)) ∙ sym (take_all 1024 xs (omega (arith, fewer))))

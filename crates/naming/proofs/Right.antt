@@ -11,7 +11,8 @@ use Rattle.lists.proofs.Tests.{T-is}
 use Rattle.lists.proofs.Lists.{Among, at-among, among-take, earliest}
 use Rattle.trace.specs.Paths.{Edge, has_edge, reaches}
 use Rattle.trace.proofs.Reach.{edge-below}
-use Rattle.graph.specs.Transactions.{Labelled, none_yet, labelled, transactions, transaction_limit, work_size}
+use Rattle.graph.specs.declared.Labelled.{Labelled}
+use Rattle.graph.specs.Transactions.{none_yet, labelled, transactions, transaction_limit, work_size}
 use Rattle.rows.specs.Bits.{has}
 use Rattle.graph.specs.Edges.{edges}
 use Rattle.graph.specs.Serial.{thread_of, serial_order}

@@ -1,19 +1,15 @@
 -- What naming promises the crates above it, and its own functions one another: the transactions that rows name, where bit a of row d of the work area
 -- is taken to say that a path leads from transaction a to d. Where it does, they are those of `graph/specs/Named` (`proofs/Right`).
 -- A reader of the public promises need not read this.
-use Rattle.std.specs.Prelude.{ℕ, zero, suc, ◌+◌, ◌-◌, ◌<◌, ◌≤◌, ◌≡◌, Bool, true, false, cond, not, ◌&&◌, List, [], ◌∷◌, map, length, get_or, take, replicate, eqb, ltb, leb}
-use Rattle.record.specs.declared.Event.{Event}
+use Rattle.std.specs.Prelude.{ℕ, zero, suc, ◌-◌, ◌<◌, ◌≤◌, ◌≡◌, Bool, true, false, cond, not, ◌&&◌, List, [], ◌∷◌, map, length, get_or, take, replicate, eqb, ltb, leb, Option, None, Some}
+use Rattle.record.specs.declared.Op.TheVariants.{Read}
 use Rattle.lists.specs.Lists.{some_of, first_of, from, below}
 use Rattle.trace.specs.Paths.{Edge}
 use Rattle.rows.specs.Bits.{has, marked, beyond}
-use Rattle.graph.specs.Transactions.{Labelled, transaction_limit, work_size}
+use Rattle.graph.specs.declared.Labelled.{Labelled}
+use Rattle.graph.specs.Transactions.{transaction_limit, work_size}
 use Rattle.graph.specs.Edges.{makes, edges}
 use Rattle.graph.specs.Serial.{thread_of}
-use Rattle.graph.specs.Held.{events_in, record_at, held}
-
--- the first n records that arrays of threads, kinds, targets and labels hold
-abbrev pub held_in : ℕ → List ℕ → List ℕ → List ℕ → List ℕ → List Labelled
-held_in n threads kinds targets labels = held n (events_in threads kinds targets) labels
 
 -- ---- the serial order, by counts of the bits in the rows. Row 0 of `taken` holds the transactions that are taken
 
@@ -72,13 +68,13 @@ lowest_by work T a (e ∷ es) low =
     lowest_by work T a es (cond (eqb e.origin a && (has work T e.goal && ltb (rank T e.goal) low)) (rank T e.goal) low)
 
 module _ (es : List Edge) (work : List ℕ) (T : ℕ) where
-  -- 0 where the cycle closes at a, or else the next one, of 512, and 1
-  unfoldable pub next_by : ℕ → ℕ
-  next_by a = let r : ℕ = lowest_by work T a es (suc transaction_limit) in cond (leb r transaction_limit) r 1
+  -- none where the cycle closes at a, or else the next one, of 512
+  unfoldable pub next_by : ℕ → Option ℕ
+  next_by a = elim (lowest_by work T a es (suc transaction_limit)) [ zero ↦ None | suc b ↦ Some (cond (ltb b transaction_limit) b 0) ]
 
   unfoldable pub walk_by : ℕ → ℕ → List ℕ
   walk_by zero a = []
-  walk_by (suc k) a = elim (next_by a) [ zero ↦ a ∷ [] | suc b ↦ a ∷ walk_by k b ]
+  walk_by (suc k) a = elim (next_by a) [ None ↦ a ∷ [] | Some b ↦ a ∷ walk_by k b ]
 
 -- the cycle of the records up to record k, which is in T; nothing, where T isn't one of n or doesn't lead to itself
 unfoldable pub cycle_by : List Labelled → ℕ → ℕ → List ℕ → List ℕ
@@ -100,26 +96,38 @@ named_by xs n p work =
       | false ↦ []
     ]
 
--- ---- by what the cycle is followed: of n records, those from record i on
+-- ---- by what the cycle is followed: of the records, those from record i on
 
--- the first record of transaction a; n, where there is none
-unfoldable pub record_from : List ℕ → ℕ → ℕ → ℕ → ℕ
-record_from labels n a i = first_of (λ k. eqb (get_or labels k 0) a) n (from i (n - i))
+-- what stands for a record past the end
+abbrev pub past_end : Labelled
+past_end = record { transaction = 0; event = record { thread = 0; op = Read 0 0 } }
 
--- The records of each of 512 transactions are linked: place a has its first, and place 512 + k the next after record k
-pub record Linked (labels : List ℕ) (n i : ℕ) (links : List ℕ) : Type 0 where
-  pub first : (a : ℕ) → a < 512 → get_or links a 0 ≡ record_from labels n a i
-  pub next : (k : ℕ) → i ≤ k → k < n → get_or labels k 0 < 512 → get_or links (512 + k) 0 ≡ record_from labels n (get_or labels k 0) (suc k)
+abbrev pub record_at : List Labelled → ℕ → Labelled
+record_at xs i = get_or xs i past_end
+
+abbrev pub transaction_at : List Labelled → ℕ → ℕ
+transaction_at xs i = (record_at xs i).transaction
+
+-- the first record of transaction a; their number, where there is none
+unfoldable pub record_from : List Labelled → ℕ → ℕ → ℕ
+record_from xs a i = first_of (λ k. eqb (transaction_at xs k) a) (length xs) (from i (length xs - i))
+
+-- The records of each of 512 transactions are linked: its first, and after record k the next one of its own
+abbrev pub Linked : List Labelled → ℕ → List ℕ → List ℕ → Type 0
+Linked xs i firsts nexts =
+    ((a : ℕ) → a < transaction_limit → get_or firsts a 0 ≡ record_from xs a i)
+    × ((k : ℕ) → i ≤ k → k < length xs → transaction_at xs k < transaction_limit → get_or nexts k 0 ≡ record_from xs (transaction_at xs k) (suc k))
 
 -- whether record i has an edge to transaction t
-unfoldable pub meets : List Event → List ℕ → ℕ → ℕ → ℕ → Bool
-meets all labels n i t = some_of (λ k. eqb (get_or labels k 0) t && makes (record_at all labels i) (record_at all labels k)) (from (suc i) (n - suc i))
+unfoldable pub meets : List Labelled → ℕ → ℕ → Bool
+meets xs i t = some_of (λ k. eqb (transaction_at xs k) t && makes (record_at xs i) (record_at xs k)) (from (suc i) (length xs - suc i))
 
--- the rank of b where it leads to T, by row T, and isn't T; or else one that is never the lowest
-abbrev pub rank_by : List ℕ → ℕ → ℕ → ℕ
-rank_by work T b = cond (ltb b transaction_limit && (not (eqb b T) && has work T b)) (suc b) (suc transaction_limit)
+-- b where it leads to T, by row T, and isn't T; or else 512, which is never the lowest
+abbrev pub candidate : List ℕ → ℕ → ℕ → ℕ
+candidate work T b = cond (ltb b transaction_limit && (not (eqb b T) && has work T b)) b transaction_limit
 
--- The ranks of the records' transactions: place k has that of record k, and place 1,024 + k none that is higher than one from record k on
-pub record Ranked (labels work : List ℕ) (T n i : ℕ) (ranks : List ℕ) : Type 0 where
-  pub own : (k : ℕ) → i ≤ k → k < n → get_or ranks k 0 ≡ rank_by work T (get_or labels k 0)
-  pub low : (k j : ℕ) → i ≤ k → k ≤ j → j < n → get_or ranks (1024 + k) 0 ≤ rank_by work T (get_or labels j 0)
+-- The candidates by the records' transactions: that of record k, and one that is no higher than any from record k on
+abbrev pub Ranked : List Labelled → List ℕ → ℕ → ℕ → List ℕ → List ℕ → Type 0
+Ranked xs work T i candidates lowest =
+    ((k : ℕ) → i ≤ k → k < length xs → get_or candidates k 0 ≡ candidate work T (transaction_at xs k))
+    × ((k j : ℕ) → i ≤ k → k ≤ j → j < length xs → get_or lowest k 0 ≤ candidate work T (transaction_at xs j))

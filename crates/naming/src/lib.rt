@@ -4,44 +4,40 @@
 mod cycle;
 mod order;
 
-ghost use Rattle.std.specs.Prelude.{◌≡◌, min, length};
+ghost use Rattle.std.specs.Prelude.{◌≡◌, length, take};
 ghost use Rattle.lists.specs.Lists.{over};
-ghost use Rattle.graph.specs.Held.{events_in, held};
+ghost use Rattle.ancestors.specs.Search.{prefix_of};
 ghost use Rattle.naming.specs.Naming.{named_by};
 
-// Writes the transactions that the rows name to the front of `order`, and says how many: all n in serial order where the prefix is 0, or else the
-// cycle of its records. They are none where there are over 512, where the work area has fewer than 4,096 numbers, where the prefix has more
-// records than there are, or where its last record isn't in one of the n whose row has its own bit.
+use graph::Labelled;
+
+// Writes the transactions that the rows name to the front of `order`, and says how many: all n in serial order where no record closes a cycle, or else
+// the cycle of the records up to the one that does. Of the records the first 1,024 are looked at. They name none where there are over 512 transactions,
+// where the work area has fewer than 4,096 numbers, where the closing record isn't among the records, or where its transaction isn't one of the n or
+// its row hasn't its own bit.
 pub fn name(
-    threads: &[u8; 1024],
-    kinds: &[u8; 1024],
-    targets: &[u8; 1024],
-    labels: &[u16; 1024],
-    count: usize,
+    records: &[Labelled],
     n: u16,
-    prefix: usize,
+    closing: Option<usize>,
     order: &mut [u16; 512],
     work: &[u64],
 ) -> usize
-    ensures { let new = named_by (held (min count 1024) (events_in threads.now kinds.now targets.now) labels.now) n prefix work.now in
+    ensures { let new = named_by (take 1024 records.now) n (prefix_of closing) work.now in
         (result ≡ length new) × (order.new ≡ over new order.old) }
 {
-    let records = if count < 1024 { count } else { 1024 };
-    if 512 < n {
+    if 512 < n || work.len() < 4096 {
         return 0;
     }
-    if work.len() < 4096 {
+    let records = &records[..records.len().min(1024)];
+    let Some(i) = closing else {
+        return order::take_all(records, work, n, order);
+    };
+    if records.len() <= i {
         return 0;
     }
-    if records < prefix {
-        return 0;
-    }
-    if prefix == 0 {
-        return order::take_all(threads, labels, records, work, n, order);
-    }
-    let t = labels[prefix - 1];
+    let t = records[i].transaction;
     if t < n && rows::test(work, t, t) {
-        return cycle::follow(threads, kinds, targets, labels, prefix, work, n, t, order);
+        return cycle::follow(&records[..i + 1], work, n, t, order);
     }
     0
 }

@@ -1,36 +1,45 @@
 -- Laws of the whole promise: a recording that is refused, one whose text doesn't fit, and one whose text is written.
 use Prim.Native.Nat.{ℕ, zero, suc, ◌/◌, ◌<◌, ◌≤◌}
 use native.Mathlib.Omega.{arith}
-use mathlib.Core.Path.{◌≡◌, refl, sym, ap, ap₂, ◌∙◌}
+use mathlib.Core.Path.{◌≡◌, refl, sym, ap, ap₂, ◌∙◌, subst}
 use mathlib.Core.Logic.{◌≢◌}
 use mathlib.Core.List.{List, [], ◌++◌}
 use lib.Dec.{leb}
-use lib.ListN.{length, drop, replicate, length-replicate}
+use Rattle.std.specs.Prelude.{Result, Ok, Err}
+use Rattle.std.specs.Result.{IsErrAnd}
+use lib.ListN.{length, take, drop, replicate, length-replicate}
 use borrow.Author.Tests.{le-leb, lt-leb, leb-true}
 use Rattle.lists.specs.Lists.{over, written_at}
+use Rattle.lists.proofs.Lists.{at-among}
 use Rattle.lists.proofs.Places.{written_start}
 use Rattle.record.specs.declared.Event.{Event}
-use Rattle.record.specs.declared.Refusal.{Refusal}
-use Rattle.record.specs.Faults.{first_fault}
-use Rattle.record.specs.Answers.{Numbers, refused_as, Ending}
+use Rattle.record.specs.Faults.{Refusal, first_fault}
+use Rattle.record.specs.declared.Fault.{Fault}
+use Rattle.record.specs.declared.Refusal.{Refusal as Given}
+use Rattle.record.specs.Answers.{number, at_no_record, refusal_of, Numbers, refused_as, bytes_or_refused, Ending}
 use Rattle.record.proofs.Laws.{none_first}
 use Rattle.trace.specs.Paths.{has_edge}
 use Rattle.rows.specs.Bits.{cleared}
 use Rattle.rows.proofs.Laws.{cleared-is}
+use Rattle.graph.specs.declared.Labelled.{Labelled}
 use Rattle.graph.specs.Transactions.{labelled, transactions, work_size}
 use Rattle.graph.specs.Edges.{edges}
-use Rattle.graph.specs.Held.{events_in, held}
-use Rattle.graph.proofs.Alike.{shown_of, shown-alike, edges-alike}
 use Rattle.looking.specs.Refusals.{events}
-use Rattle.looking.specs.Looked.{Arrays, Looking, looked}
+use Rattle.looking.specs.Looked.{Looking, looked}
 use Rattle.looking.proofs.Refusing.{inputs-passed, inputs-next, size-refused, more-passed}
-use Rattle.looking.proofs.Laws.{Passed, passed, passed-more, Noted, looked-refusal, looked-noted}
-use Rattle.picture.specs.declared.Drawn.{Drawn}
+use Rattle.looking.proofs.Laws.{Passed, passed, passed-more, Noted, looked-refusal, looked-noted, noted-few}
 use Rattle.picture.specs.Picture.{drawing, picture}
-use Rattle.picture.specs.Drawn.{written_as, numbers, size_checks, refusal, Put, fitted, drawn}
-use Rattle.picture.specs.Linking.{Links}
+use Rattle.picture.specs.Drawn.{written_as, size_checks, refusal, Put, fitted, drawn}
+use Rattle.picture.specs.Linking.{Few, Links}
 use Rattle.picture.specs.Putting.{text_of}
 use Rattle.picture.proofs.Texts.{text-is}
+
+-- ---- An answer in numbers
+
+-- a fault passed on by `?`
+pub refused_by_fault : (r : Result ℕ Given) (f : Fault) → IsErrAnd r (λ e. e ≡ at_no_record f) → bytes_or_refused r ≡ refused_as (record { number = number f; place = 0 })
+refused_by_fault (Ok n) f h = absurd h
+refused_by_fault (Err e) f h = ap (λ r. refused_as (refusal_of r)) h
 
 -- ---- Not refused
 
@@ -71,7 +80,7 @@ module _ (input out work : List ℕ) where
 
   -- ---- Looked through
 
-  module _ (sized : first_fault (size_checks input work) ≡ 0) (old : Arrays) (l : Looking) (is : l ≡ looked input old) where
+  module _ (sized : first_fault (size_checks input work) ≡ 0) (old : List Labelled) (l : Looking) (is : l ≡ looked input old) where
     refusal_is : refusal input work ≡ l.refusal
     unfolding size_checks
     refusal_is = more-passed input _ sized ∙ looked-refusal input old l is
@@ -81,25 +90,34 @@ module _ (input out work : List ℕ) where
     drawn-faulty some = drawn-refused l.refusal refusal_is some
 
     module _ (none : l.refusal.number ≡ 0) where
-      pub all-passed : Passed input
+      all-passed : Passed input
       all-passed = passed input (ap (λ f. f.number) (looked-refusal input old l is) ∙ none)
 
-      pub all_noted : Noted input l.arrays l.transactions
+      all_noted : Noted input l.records l.transactions
       all_noted = looked-noted input old l is none
+
+      -- the records that are linked
+      abbrev all : List Labelled
+      all = take (length input / 8) l.records
+
+      pub all_few : Few all
+      all_few = subst Few (sym all_noted.are) (λ i d h. noted-few input all-passed _ (at-among (labelled (events input)) i d h))
+
+      pub most : length input / 8 ≤ 1024
+      most = all-passed.most
 
       pub count-few : l.transactions ≤ 512
       count-few = omega (arith, all_noted.counted, all-passed.few)
 
       -- ---- Linked and put
 
-      module _ (w : List ℕ) (links : Links (held (length input / 8) (events_in l.arrays.threads l.arrays.kinds l.arrays.targets) l.arrays.labels) w)
-          (rest : drop 4096 w ≡ drop 4096 work) where
+      module _ (w : List ℕ) (links : Links all w) (rest : drop 4096 w ≡ drop 4096 work) where
         text-right : text_of w l.transactions ≡ picture (events input)
         unfolding picture
         text-right =
             let es : List Event = events input in
             text-is w l.transactions (edges (labelled es)) count-few
-            (λ a b ha hb. links.is a b ha hb ∙ ap (λ xs. has_edge (edges xs) a b) all_noted.labelled-are ∙ ap (λ g. has_edge g a b) (edges-alike shown_of shown-alike es))
+            (λ a b ha hb. links.is a b ha hb ∙ ap (λ xs. has_edge (edges xs) a b) all_noted.are)
             ∙ ap (λ k. drawing k (edges (labelled es))) all_noted.counted
 
         cleared-right : cleared w ≡ over (replicate work_size 0) work
@@ -109,10 +127,10 @@ module _ (input out work : List ℕ) where
             let z : ℕ = 0 in
             cleared-is w links.long ∙ ap (λ v. replicate k z ++ v) (rest ∙ ap (λ m. drop m work) (sym (length-replicate k z)))
 
-        pub drawn-put : (a : Drawn) (out' w' : List ℕ) → ◌≡◌ {A = Put} (record { answer = numbers a; out = out' }) (fitted (text_of w l.transactions) out) → w' ≡ cleared w
-            → left (numbers a) out' w' ≡ drawn input out work
+        pub drawn-put : (a : Numbers) (out' w' : List ℕ) → ◌≡◌ {A = Put} (record { answer = a; out = out' }) (fitted (text_of w l.transactions) out) → w' ≡ cleared w
+            → left a out' w' ≡ drawn input out work
         drawn-put a out' w' p c =
-            drawn-fine (record { answer = numbers a; out = out' }) w' (ap (λ f. f.number) refusal_is ∙ none) (p ∙ ap (λ t. fitted t out) text-right) (c ∙ cleared-right)
+            drawn-fine (record { answer = a; out = out' }) w' (ap (λ f. f.number) refusal_is ∙ none) (p ∙ ap (λ t. fitted t out) text-right) (c ∙ cleared-right)
 
 -- ---- Where the text fits, and where it doesn't
 

@@ -5,9 +5,8 @@ use mathlib.Core.Path.{◌≡◌, refl, sym, ap, ap₂, ◌∙◌, subst}
 use mathlib.Core.Bool.{Bool, true, false, cond, ◌&&◌, ◌||◌, or-true, or-false, and-true, and-false}
 use mathlib.Core.List.{List, [], ◌∷◌, ◌++◌}
 use borrow.Author.Tests.{eq-eqb, ne_eqb}
-use lib.ListN.{length, get_or, drop}
+use lib.ListN.{length, drop}
 use lib.Dec.{eqb}
-use Rattle.record.specs.declared.Event.{Event}
 use Rattle.lists.specs.Lists.{some_of}
 use Rattle.trace.specs.Paths.{has_edge}
 use Rattle.lists.proofs.Tests.{by, by-same}
@@ -15,34 +14,22 @@ use Rattle.lists.proofs.Lists.{some-snoc}
 use Rattle.rows.specs.Bits.{has, marked, cleared}
 use Rattle.rows.proofs.Laws.{marked-same, marked_other, length_marked, rest-marked, length-cleared, cleared-none}
 use Rattle.graph.specs.Conflict.{conflict}
-use Rattle.graph.specs.Transactions.{Labelled}
+use Rattle.graph.specs.declared.Labelled.{Labelled}
 use Rattle.graph.specs.Edges.{makes, edges}
-use Rattle.graph.specs.Held.{shown, events_in, record_at}
-use Rattle.graph.proofs.Held.{events-at}
 use Rattle.graph.proofs.Steps.{makes-own, makes-by, edges-snoc}
 use Rattle.picture.specs.Linking.{Links, linked}
 
--- ---- Two records that arrays hold
+-- ---- Two records
 
-module _ (threads kinds targets labels : List ℕ) where
-  -- record j, by its transaction, and by what is shown of it
-  abbrev at : ℕ → Labelled
-  at j = record_at (events_in threads kinds targets) labels j
+module _ (x y : Labelled) (w : List ℕ) where
+  -- of one transaction
+  pub linked-own : x.transaction ≡ y.transaction → w ≡ linked x y w
+  linked-own e = sym (ap (λ (c : Bool). cond c (marked w x.transaction y.transaction) w) (makes-own y x e))
 
-  abbrev pub shown_at : ℕ → Event
-  shown_at j = shown (get_or threads j 0) (get_or kinds j 0) (get_or targets j 0)
-
-  module _ (i k : ℕ) (w : List ℕ) where
-    -- of one transaction
-    pub linked-own : get_or labels i 0 ≡ get_or labels k 0 → w ≡ linked (at i) (at k) w
-    linked-own e = sym (ap (λ (c : Bool). cond c (marked w (get_or labels i 0) (get_or labels k 0)) w) (makes-own (at k) (at i) e))
-
-    -- of two, that conflict or don't
-    pub linked-by : i < 1024 → k < 1024 → (get_or labels i 0 ≡ get_or labels k 0 → ⊥) → (found is : Bool) → found ≡ conflict (shown_at i) (shown_at k) → found ≡ is
-        → cond is (marked w (get_or labels i 0) (get_or labels k 0)) w ≡ linked (at i) (at k) w
-    linked-by hi hk other found is c e =
-        sym (ap (λ (d : Bool). cond d (marked w (get_or labels i 0) (get_or labels k 0)) w)
-        (makes-by (at k) (at i) is other (sym e ∙ c ∙ sym (ap₂ conflict (events-at threads kinds targets i hi) (events-at threads kinds targets k hk)))))
+  -- of two, that conflict or don't
+  pub linked-by : (x.transaction ≡ y.transaction → ⊥) → (found is : Bool) → found ≡ conflict x.event y.event → found ≡ is
+      → cond is (marked w x.transaction y.transaction) w ≡ linked x y w
+  linked-by other found is c e = sym (ap (λ (d : Bool). cond d (marked w x.transaction y.transaction) w) (makes-by y x is other (sym e ∙ c)))
 
 -- ---- No records
 

@@ -1,22 +1,15 @@
 -- The whole promise: the answer, and what is left in the output and in the work area, of every input, output and work area (document 02, L5).
 use Rattle.std.specs.Prelude.{ℕ, zero, suc, true, false, List, [], ◌∷◌, ◌++◌, length, replicate, leb}
 use Rattle.lists.specs.Lists.{over}
-use Rattle.record.specs.declared.Refusal.{Refusal}
-use Rattle.record.specs.Faults.{Check, check}
+use Rattle.record.specs.Faults.{Refusal, Check, check}
 use Rattle.record.specs.Answers.{Numbers, refused_as, Ending}
 use Rattle.graph.specs.Transactions.{work_size}
 use Rattle.looking.specs.Refusals.{input_checks, refused_by, events}
-use Rattle.picture.specs.declared.Drawn.{Drawn}
-use Rattle.picture.specs.declared.Drawn.TheVariants.{Written, Refused}
 use Rattle.picture.specs.Picture.{picture}
 
--- This paper's number and values for each case of an answer.  0 written: the number of bytes.  2 refused: number and record
+-- so many bytes are written
 abbrev pub written_as : ℕ → Numbers
 written_as bytes = record { kind = 0; first = bytes; second = 0 }
-
-abbrev pub numbers : Drawn → Numbers
-numbers (Written bytes) = written_as bytes
-numbers (Refused r) = refused_as r
 
 -- 1, 2 and 4, tried in that order
 unfoldable pub size_checks : List ℕ → List ℕ → List Check

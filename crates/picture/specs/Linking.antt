@@ -1,9 +1,13 @@
 -- What the private functions that gather the edges promise one another. A reader of the public promise need not read this.
-use Rattle.std.specs.Prelude.{ℕ, ◌<◌, ◌≤◌, ◌≡◌, cond, List, length}
+use Rattle.std.specs.Prelude.{ℕ, ◌<◌, ◌≤◌, ◌≡◌, cond, List, length, get_or}
 use Rattle.trace.specs.Paths.{has_edge}
 use Rattle.rows.specs.Bits.{has, marked}
-use Rattle.graph.specs.Transactions.{Labelled}
+use Rattle.graph.specs.declared.Labelled.{Labelled}
 use Rattle.graph.specs.Edges.{makes, edges}
+
+-- each record is of one of 512 transactions
+abbrev pub Few : List Labelled → Type 0
+Few xs = (i : ℕ) (d : Labelled) → i < length xs → (get_or xs i d).transaction < 512
 
 -- The rows hold the edges of the records: bit b of row a is set where there is an edge from transaction a to b
 pub record Links (xs : List Labelled) (work : List ℕ) : Type 0 where

@@ -6,6 +6,7 @@ use Rattle.picture.specs.Picture.{opening, closing, transaction_line, edge, edge
 
 -- Bytes put from a place on: the place after them, and what is left where they fit
 pub record Puts (bytes : List ℕ) (at : ℕ) (before after : List ℕ) (r : ℕ) : Type 0 where
+  pub size : length after ≡ length before
   pub end : r ≡ at + length bytes
   pub put : at + length bytes ≤ length before → after ≡ written_at before at bytes
 

@@ -6,53 +6,36 @@ mod putting;
 
 ghost use Rattle.std.specs.Prelude.{◌≡◌};
 ghost use Rattle.record.specs.Faults.{first_fault};
-ghost use Rattle.record.specs.Answers.{Ending};
-ghost use Rattle.picture.specs.Drawn.{numbers, size_checks, drawn};
+ghost use Rattle.record.specs.Answers.{number_in, bytes_or_refused, Ending};
+ghost use Rattle.picture.specs.Drawn.{size_checks, drawn};
 
-use record::Refusal;
+use graph::Labelled;
+use record::{Fault, Refusal};
 
-// What drawing ends in: so many bytes written, or a refusal.
-#[derive(Clone, Copy)]
-pub enum Drawn {
-    Written { bytes: usize },
-    Refused(Refusal),
-}
-
-// Numbers 1, 2 and 4, tried in that order; 0 where none is given.
-fn size_fault(input: &[u8], work: &[u64]) -> u8
-    ensures { result ≡ first_fault (size_checks input.now work.now) }
+// Numbers 1, 2 and 4, tried in that order: which are tried is each caller's own (Drawn.size_checks).
+fn check_sizes(input: &[u8], work: &[u64]) -> Result<(), Fault>
+    ensures { number_in result ≡ first_fault (size_checks input.now work.now) }
 {
-    let number = looking::input_fault(input);
-    if number != 0 {
-        return number;
-    }
+    looking::check_input(input)?;
     if work.len() < 4096 {
-        return 4;
+        return Err(Fault::WorkArea);
     }
-    0
+    Ok(())
 }
 
-// Draws the transactions and the edges of a recording.
-pub fn draw(input: &[u8], out: &mut [u8], work: &mut [u64]) -> Drawn
-    ensures { ◌≡◌ {A = Ending} (record { answer = numbers result; out = out.new; work = work.new })
+// Draws the transactions and the edges of a recording; how many bytes that took.
+pub fn draw(input: &[u8], out: &mut [u8], work: &mut [u64]) -> Result<usize, Refusal>
+    ensures { ◌≡◌ {A = Ending} (record { answer = bytes_or_refused result; out = out.new; work = work.new })
         (drawn input.now out.old work.old) }
 {
-    let number = size_fault(input, &*work);
-    if number != 0 {
-        return Drawn::Refused(Refusal { number, place: 0 });
+    check_sizes(input, work)?;
+    let mut records = [Labelled::unseen(); 1024];
+    let looked = looking::look(input, &mut records);
+    if let Some(refusal) = looked.refusal {
+        return Err(refusal);
     }
-    let mut threads = [0u8; 1024];
-    let mut kinds = [0u8; 1024];
-    let mut targets = [0u8; 1024];
-    let mut labels = [0u16; 1024];
-    let looked = looking::look(input, &mut threads, &mut kinds, &mut targets, &mut labels);
-    let refusal = looked.refusal;
-    if refusal.number != 0 {
-        return Drawn::Refused(refusal);
-    }
-    let count = input.len() / 8;
-    linking::link_all(work, &threads, &kinds, &targets, &labels, count);
-    let answer = putting::put_fitting(&*work, looked.transactions, out);
+    linking::link_all(work, &records[..input.len() / 8]);
+    let answer = putting::put_fitting(work, looked.transactions, out);
     rows::clear(work);
     answer
 }

@@ -1,23 +1,23 @@
 -- What the plain engine's code cites: the sources of a record, one record before it at a time.
-use Prim.Native.Nat.{ℕ, ◌+◌, ◌<◌, ◌≤◌}
-use native.Mathlib.Numerals.{add-one}
+use Prim.Native.Nat.{ℕ, ◌<◌, ◌≤◌}
 use mathlib.Core.Path.{◌≡◌, refl, sym, ap, ap₂, ◌∙◌, subst}
 use mathlib.Core.Bool.{Bool, true, false, not, cond, ◌&&◌, and-false}
 use mathlib.Core.List.{List, [], ◌∷◌, ◌++◌, map}
+use denote.Enum.Bare.{sameb}
 use borrow.Author.Tests.{eq-eqb, ne_eqb, lt-ltb, le-ltb}
 use lib.Dec.{eqb, ltb}
-use lib.ListN.{get_or}
-use Rattle.record.specs.declared.Event.{Event}
 use Rattle.lists.specs.Lists.{keep}
 use Rattle.lists.proofs.Tests.{by}
 use Rattle.lists.proofs.Lists.{keep-true, keep-false, keep_append, map-append}
 use Rattle.rows.specs.Bits.{has}
 use Rattle.graph.specs.Conflict.{conflict}
-use Rattle.graph.specs.Transactions.{Labelled, transaction_limit}
+use Rattle.graph.specs.declared.Labelled.{Labelled}
+use Rattle.graph.specs.Transactions.{transaction_limit}
 use Rattle.graph.specs.Edges.{makes}
-use Rattle.graph.specs.Held.{past_end, labelled_as, record_at, held}
-use Rattle.graph.proofs.Held.{held_more}
-use Rattle.ancestors.specs.Sources.{more, Joins}
+use Rattle.ancestors.specs.declared.Joined.{Joined}
+use Rattle.ancestors.specs.declared.Joined.TheVariants.{Nothing, Source, Cycle}
+use Rattle.ancestors.specs.contracts.Joined.{the_type}
+use Rattle.ancestors.specs.Sources.{more, code, Joins}
 use Rattle.ancestors.proofs.Joining.{joins-none, joins-then, joins-old}
 use Rattle.plain.specs.Plain.{sources, few}
 
@@ -42,21 +42,21 @@ module _ (y x : Labelled) where
   makes-by b c p q = ap₂ (λ u v. not u && v) p q
 
   module _ (w : List ℕ) where
-    abbrev Nothing : Type 0
-    Nothing = Joins w x.transaction (sources (few (y ∷ [])) x) 0 w
+    abbrev None : Type 0
+    None = Joins w x.transaction (sources (few (y ∷ [])) x) 0 w
 
-    nothing : (b c : Bool) → ltb y.transaction transaction_limit ≡ b → makes y x ≡ c → (b && c) ≡ false → Nothing
+    nothing : (b c : Bool) → ltb y.transaction transaction_limit ≡ b → makes y x ≡ c → (b && c) ≡ false → None
     nothing b c p q e = subst (λ l. Joins w x.transaction l 0 w) (sym (one-is b c p q ∙ ap (λ d. cond d (y.transaction ∷ []) []) e)) (joins-none w x.transaction)
 
     -- it is of the same transaction; of none of 512; row a has its bit; it doesn't conflict
-    pub joins-same : y.transaction ≡ x.transaction → Nothing
+    pub joins-same : y.transaction ≡ x.transaction → None
     joins-same e = nothing (ltb y.transaction transaction_limit) false refl
         (makes-by true (conflict y.event x.event) (eq-eqb y.transaction x.transaction e) refl) (and-false (ltb y.transaction transaction_limit))
 
-    pub joins-over : transaction_limit ≤ y.transaction → Nothing
+    pub joins-over : transaction_limit ≤ y.transaction → None
     joins-over h = nothing false (makes y x) (le-ltb y.transaction transaction_limit h) refl refl
 
-    pub joins-known : has w x.transaction y.transaction ≡ true → Nothing
+    pub joins-known : has w x.transaction y.transaction ≡ true → None
     joins-known e = by (ltb y.transaction transaction_limit && makes y x)
         (λ c. subst (λ l. Joins w x.transaction l 0 w) (sym (one-is (ltb y.transaction transaction_limit) (makes y x) refl refl ∙ ap (λ d. cond d (y.transaction ∷ []) []) c))
         (joins-old w x.transaction y.transaction e))
@@ -66,7 +66,7 @@ module _ (y x : Labelled) where
       other : (c : Bool) → conflict y.event x.event ≡ c → makes y x ≡ c
       other c q = makes-by false c (ne_eqb y.transaction x.transaction ne) q
 
-      pub joins-apart : conflict y.event x.event ≡ false → Nothing
+      pub joins-apart : conflict y.event x.event ≡ false → None
       joins-apart q = nothing (ltb y.transaction transaction_limit) false refl (other false q) (and-false (ltb y.transaction transaction_limit))
 
       -- it makes an edge
@@ -74,23 +74,24 @@ module _ (y x : Labelled) where
           → Joins w x.transaction (sources (few (y ∷ [])) x) r v
       joins-edge h q r v j = subst (λ l. Joins w x.transaction l r v) (sym (one-is true true (lt-ltb y.transaction transaction_limit h) (other true q))) j
 
--- ---- over the records that arrays hold
+-- ---- records before it, and one more
 
-module _ (all : List Event) (labels : List ℕ) (i : ℕ) (e : Event) (is-e : get_or all i past_end ≡ e) where
-  abbrev Joined : ℕ → List ℕ → ℕ → List ℕ → Type 0
-  Joined j w r v = Joins w (get_or labels i 0) (sources (few (held j all labels)) (record_at all labels i)) r v
+pub joins-first : (x : Labelled) (w : List ℕ) → Joins w x.transaction (sources (few []) x) 0 w
+unfolding sources keep
+joins-first x w = joins-none w x.transaction
 
-  -- none, and one more
-  pub joins-first : (w : List ℕ) → Joined 0 w 0 w
-  unfolding held sources keep
-  joins-first w = joins-none w (get_or labels i 0)
+pub joins-next : (ys : List Labelled) (y x : Labelled) (u v w : List ℕ) (p q r : ℕ) → Joins u x.transaction (sources (few ys) x) p v → Joins v x.transaction (sources (few (y ∷ [])) x) q w
+    → r ≡ more p q → Joins u x.transaction (sources (few (ys ++ (y ∷ []))) x) r w
+joins-next ys y x u v w p q r f g h = subst (λ l. Joins u x.transaction l r w) (sym (sources-more ys y x)) (joins-then u v w x.transaction (sources (few ys) x) (sources (few (y ∷ [])) x) p q r f g h)
 
-  pub joins-next : (j : ℕ) (d : Event) → get_or all j past_end ≡ d → (u v w : List ℕ) (p q r : ℕ) → Joined j u p v
-      → Joins v (get_or labels i 0) (sources (few (labelled_as (get_or labels j 0) d ∷ [])) (labelled_as (get_or labels i 0) e)) q w → r ≡ more p q → Joined (j + 1) u r w
-  joins-next j d is-d u v w p q r f g h =
-      let x : Labelled = record_at all labels i in
-      subst (λ n. Joined n u r w) (sym (add-one j))
-      (subst (λ l. Joins u (get_or labels i 0) l r w) (sym (ap (λ l. sources (few l) x) (held_more j all labels) ∙ sources-more (held j all labels) (record_at all labels j) x))
-      (joins-then u v w (get_or labels i 0) (sources (few (held j all labels)) x) (sources (few (record_at all labels j ∷ [])) x) p q r f
-      (subst (λ l. Joins v (get_or labels i 0) l q w)
-      (sym (ap₂ (λ a b. sources (few (labelled_as (get_or labels j 0) a ∷ [])) (labelled_as (get_or labels i 0) b)) is-d is-e)) g) h))
+-- ---- what was found, in numbers
+
+pub is-cycle : (j : Joined) → sameb the_type j Cycle ≡ eqb (code j) 2
+is-cycle Nothing = refl
+is-cycle Source = refl
+is-cycle Cycle = refl
+
+pub is-nothing : (j : Joined) → sameb the_type j Nothing ≡ eqb (code j) 0
+is-nothing Nothing = refl
+is-nothing Source = refl
+is-nothing Cycle = refl

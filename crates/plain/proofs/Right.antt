@@ -2,7 +2,7 @@
 use Prim.Native.Nat.{ℕ, ◌≤◌}
 use mathlib.Core.Path.{◌≡◌, sym, ◌∙◌, subst}
 use mathlib.Core.Bool.{Bool, ◌&&◌, ◌||◌}
-use mathlib.Core.List.{List, [], ◌∷◌, ◌++◌, map, append-nil}
+use mathlib.Core.List.{List, [], ◌∷◌, ◌++◌, append-nil}
 use lib.Seq.{append_snoc}
 use lib.Dec.{T, eqb, eqb→eq}
 use Rattle.record.specs.declared.Event.{Event}
@@ -11,16 +11,15 @@ use Rattle.lists.proofs.Tests.{or_cases, or_left, or_right, and_left, and_right}
 use Rattle.lists.proofs.Lists.{Among, keep-among, keep-has, among-map, among-unmap, Holds, some_at, some-has}
 use Rattle.trace.specs.Paths.{Edge, has_edge, PathAlong, reaches}
 use Rattle.trace.proofs.Reach.{complete}
-use Rattle.graph.specs.Transactions.{Labelled, labelled, transactions, transaction_limit}
+use Rattle.graph.specs.declared.Labelled.{Labelled}
+use Rattle.graph.specs.Transactions.{labelled, transactions, transaction_limit}
 use Rattle.graph.specs.Edges.{makes, edges}
-use Rattle.graph.specs.Held.{shown_of}
-use Rattle.graph.proofs.Alike.{shown-alike, transactions-alike}
 use Rattle.graph.proofs.Ends.{pair-has}
 use Rattle.graph.proofs.Steps.{before-end, edges-snoc}
 use Rattle.ancestors.specs.Ancestors.{Stands, Found}
 use Rattle.ancestors.specs.Search.{kept_from, searched}
 use Rattle.ancestors.proofs.Right.{RightSources}
-use Rattle.ancestors.proofs.Searching.{RightEngine, searched-right, found_alike}
+use Rattle.ancestors.proofs.Searching.{RightEngine, searched-right}
 use Rattle.plain.specs.Plain.{sources, next}
 
 -- a record's sources are right: each has an edge to its transaction, and who has one that was not there before is a source
@@ -67,12 +66,3 @@ engine-right zs xs x later e = subst (λ l. RightSources xs x (sources l x)) (sy
 pub search-right : (es : List Event) → transactions es ≤ transaction_limit → (work : List ℕ) → Stands (transactions es) work []
     → Found es work (searched sources next [] work (labelled es)).prefix (searched sources next [] work (labelled es)).rows
 search-right es few work stands = searched-right sources next [] es few (engine-right (labelled es)) work stands
-
--- and so does the search over the operations as arrays show them
-pub shown-right : (es : List Event) → transactions es ≤ transaction_limit → (work : List ℕ) → Stands (transactions es) work []
-    → Found es work (searched sources next [] work (labelled (map shown_of es))).prefix (searched sources next [] work (labelled (map shown_of es))).rows
-shown-right es few work stands =
-    let same : transactions (map shown_of es) ≡ transactions es = transactions-alike shown_of shown-alike es in
-    let r = searched sources next [] work (labelled (map shown_of es)) in
-    found_alike es work r.prefix r.rows
-    (search-right (map shown_of es) (subst (λ n. n ≤ transaction_limit) (sym same) few) work (subst (λ n. Stands n work []) (sym same) stands))

@@ -2,7 +2,8 @@
 -- This is what crates promise one another; a reader of the public promises need not read it.
 use Rattle.std.specs.Prelude.{ℕ, List, [], ◌∷◌, ◌++◌, map, ltb}
 use Rattle.lists.specs.Lists.{keep}
-use Rattle.graph.specs.Transactions.{Labelled, transaction_limit}
+use Rattle.graph.specs.declared.Labelled.{Labelled}
+use Rattle.graph.specs.Transactions.{transaction_limit}
 use Rattle.graph.specs.Edges.{makes}
 
 -- the sources of a record: the transactions of those before it that make an edge with it

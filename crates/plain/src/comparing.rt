@@ -1,83 +1,47 @@
 // A record compared with those before it.
-ghost use Rattle.std.specs.Prelude.{◌≡◌, [], ◌∷◌, ◌<◌, get_or};
-ghost use Rattle.graph.specs.Held.{shown, labelled_as, events_in, record_at, held};
-ghost use Rattle.ancestors.specs.Sources.{Joins};
+ghost use Rattle.std.specs.Prelude.{◌≡◌, [], ◌∷◌};
+ghost use Rattle.ancestors.specs.Sources.{Joins, code};
 ghost use Rattle.ancestors.specs.Search.{closes_cycle, rows_with};
 ghost use Rattle.plain.specs.Plain.{sources, few};
 
-// Joins into row a the row of transaction b, unless row a has its bit, where an operation of b (thread u, kind l, target y) stands before one of a
-// (t, k, x) and makes an edge with it: 0 if nothing is joined, 2 if a reaches b, else 1. The bit is looked at first, since that takes less than to compare.
-fn join_edge(work: &mut [u64], t: u8, k: u8, x: u8, a: u16, u: u8, l: u8, y: u8, b: u16) -> u8
-    ensures { Joins work.old a (sources (few (labelled_as b (shown u l y) ∷ [])) (labelled_as a (shown t k x))) result work.new }
+use ancestors::Joined;
+use graph::Labelled;
+
+// Joins into the row of x the row of the transaction of y, which stands before it, where they make an edge. The bit is looked at first, since that
+// takes less than to compare.
+fn join_edge(work: &mut [u64], x: Labelled, y: Labelled) -> Joined
+    ensures { Joins work.old x.transaction (sources (few (y ∷ [])) x) (code result) work.new }
 {
-    if b == a {
-        return 0;
-    }
-    if b >= 512 {
-        return 0;
-    }
-    if rows::test(work, a, b) {
-        return 0;
-    }
-    if graph::conflicts(u, l, y, t, k, x) {
+    let a = x.transaction;
+    let b = y.transaction;
+    if b != a && b < 512 && !rows::test(work, a, b) && graph::conflicts(y.event, x.event) {
         return ancestors::join_source(work, a, b);
     }
-    0
+    Joined::Nothing
 }
 
-// The same of each record before record i. The greatest answer is given.
-fn join_earlier(
-    threads: &[u8; 1024],
-    kinds: &[u8; 1024],
-    targets: &[u8; 1024],
-    labels: &[u16; 1024],
-    i: usize,
-    work: &mut [u64],
-) -> u8
-    requires { i < 1024 }
-    ensures { let all = events_in threads.now kinds.now targets.now in
-        Joins work.old (get_or labels.now i 0) (sources (few (held i all labels.now)) (record_at all labels.now i)) result work.new }
+// The same of each record before x. The greatest answer is given.
+fn join_earlier(earlier: &[Labelled], x: Labelled, work: &mut [u64]) -> Joined
+    ensures { Joins work.old x.transaction (sources (few earlier.now) x) (code result) work.new }
 {
-    let t = threads[i];
-    let k = kinds[i];
-    let x = targets[i];
-    let a = labels[i];
-    let mut code = 0;
-    let mut j = 0;
-    while j < i {
-        let one = join_edge(
-            work, t, k, x, a, threads[j], kinds[j], targets[j], labels[j],
-        );
-        code = ancestors::more(code, one);
-        j += 1;
+    let mut found = Joined::Nothing;
+    for y in earlier {
+        found = found.and(join_edge(work, x, *y));
     }
-    code
+    found
 }
 
-// Takes record i in, with n rows to look at, and says whether that closes a cycle. There are rows for 512 transactions: of a record of any other
+// Takes a record in, with n rows to look at, and says whether that closes a cycle. There are rows for 512 transactions: of a record of any other
 // nothing changes.
-pub fn take(
-    threads: &[u8; 1024],
-    kinds: &[u8; 1024],
-    targets: &[u8; 1024],
-    labels: &[u16; 1024],
-    i: usize,
-    n: u16,
-    work: &mut [u64],
-) -> bool
-    requires { i < 1024 }
-    ensures { let all = events_in threads.now kinds.now targets.now in
-        let before = few (held i all labels.now) in
-        let x = record_at all labels.now i in
-        (result ≡ closes_cycle sources before work.old x) × (work.new ≡ rows_with sources before work.old n x) }
+pub fn take(earlier: &[Labelled], x: Labelled, n: u16, work: &mut [u64]) -> bool
+    ensures { (result ≡ closes_cycle sources (few earlier.now) work.old x) × (work.new ≡ rows_with sources (few earlier.now) work.old n x) }
 {
-    let a = labels[i];
-    if a >= 512 {
+    if x.transaction >= 512 {
         return false;
     }
-    let code = join_earlier(threads, kinds, targets, labels, i, work);
-    if code != 0 {
-        ancestors::spread(work, n, a);
+    let found = join_earlier(earlier, x, work);
+    if found != Joined::Nothing {
+        ancestors::spread(work, n, x.transaction);
     }
-    code == 2
+    found == Joined::Cycle
 }

@@ -5,7 +5,9 @@ use lib.Dec.{T, eqb}
 use Rattle.record.specs.declared.Event.{Event}
 use Rattle.replay.specs.declared.State.{State}
 use Rattle.replay.specs.Machine.{fault_of, next, after, possible}
-use Rattle.graph.specs.Transactions.{Tally, belongs, tallied, Labelled, labelled_from, tally_from}
+use Rattle.graph.specs.declared.Labelled.{Labelled}
+use Rattle.graph.specs.declared.Tally.{Tally}
+use Rattle.graph.specs.Transactions.{belongs, tallied, labelled_from, tally_from}
 use Rattle.graph.specs.Held.{labelled_as}
 use Rattle.graph.proofs.Numbers.{Sane, sane-tallied}
 use Rattle.lists.proofs.Tests.{and_left, and_right, and_both}

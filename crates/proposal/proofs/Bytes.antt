@@ -15,9 +15,11 @@ use Rattle.replay.specs.Machine.{fresh, fault_of, possible}
 use Rattle.lists.specs.Lists.{all_of, each}
 use Rattle.lists.proofs.Tests.{by, and_left, and_right}
 use Rattle.lists.proofs.Lists.{Every, all_cons}
-use Rattle.graph.specs.Transactions.{Tally, begins, full, tallied, tally_from, transactions}
+use Rattle.graph.specs.declared.Tally.{Tally}
+use Rattle.graph.specs.Transactions.{begins, full, tallied, tally_from, transactions}
 use Rattle.graph.proofs.Numbers.{count-begun, tally-rises}
-use Rattle.looking.specs.Refusals.{Run, start, onwards, first_refusal, events}
+use Rattle.looking.specs.declared.seeing.Run.{Run}
+use Rattle.looking.specs.Refusals.{start, onwards, first_refusal, events}
 use Rattle.looking.proofs.Refusing.{refusal-on}
 use Rattle.looking.proofs.Seen.{no-fault}
 use Rattle.looking.proofs.Laws.{InForm}

@@ -18,7 +18,9 @@ use Rattle.trace.proofs.Reach.{Bounded, edge-below, sound, edge-back}
 use Rattle.trace.proofs.Closing.{cyclic-goal}
 use Rattle.graph.specs.Conflict as Conflict
 use Rattle.graph.specs.Conflict.{accesses, writes, locks, forks, joins, same_thread, same_variable, same_lock, governs, same_child, conflict}
-use Rattle.graph.specs.Transactions.{Tally, none_yet, current_of, begins, belongs, tallied, Labelled, labelled_from, labelled, tally_from}
+use Rattle.graph.specs.declared.Labelled.{Labelled}
+use Rattle.graph.specs.declared.Tally.{Tally}
+use Rattle.graph.specs.Transactions.{none_yet, current_of, begins, belongs, tallied, labelled_from, labelled, tally_from}
 use Rattle.graph.specs.Edges.{makes, edges}
 use Rattle.graph.specs.Held.{labelled_as}
 use Rattle.graph.proofs.Clash.{conflict-own}

@@ -13,7 +13,8 @@ use Rattle.record.specs.declared.Event.{Event}
 use Rattle.lists.proofs.Tests.{by, by-same}
 use Rattle.lists.proofs.Lists.{map-append}
 use Rattle.graph.specs.Conflict.{joins}
-use Rattle.graph.specs.Transactions.{Tally, none_yet, current_of, begins, belongs, ends, tallied, tally_from, transactions}
+use Rattle.graph.specs.declared.Tally.{Tally}
+use Rattle.graph.specs.Transactions.{none_yet, current_of, begins, belongs, ends, tallied, tally_from, transactions}
 use Rattle.graph.proofs.Numbers.{count-begun, count-unbegun, count-rises, current-other}
 use Rattle.proposal.specs.Walk.{Placed, given, yield_of, yield_for, events_in, needs_yield, grown, walked}
 use Rattle.proposal.proofs.Appending.{tally-append}

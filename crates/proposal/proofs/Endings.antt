@@ -7,14 +7,14 @@ use mathlib.Core.List.{List, [], ◌∷◌}
 use lib.ListN.{length, replicate}
 use lib.Dec.{leb}
 use borrow.Author.Tests.{leb-true}
-use Rattle.record.specs.declared.Refusal.{Refusal}
-use Rattle.record.specs.Faults.{Check, check, first_fault}
+use Rattle.record.specs.Faults.{Refusal, Check, check, first_fault}
 use Rattle.record.proofs.Laws.{none_first}
 use Rattle.lists.specs.Lists.{over}
 use Rattle.graph.specs.Transactions.{work_size}
 use Rattle.looking.specs.Refusals.{input_checks, refused_by, events}
 use Rattle.looking.proofs.Refusing.{sized, inputs-next, inputs-passed, more-passed}
 use Rattle.looking.proofs.Laws.{Passed, passed-more}
+use Rattle.proposal.specs.declared.Added.{Added}
 use Rattle.proposal.specs.Walk.{finished, stop}
 use Rattle.proposal.specs.Proposed.{size_checks, refusal, done, refused, proposed, lines_from, told}
 
@@ -75,10 +75,10 @@ module _ (input out work : List ℕ) where
     proposed-done h = rw (none, h, proposed)
 
   -- the lines
-  pub told-refused : (old : List ℕ) → (proposed input out work).answer.kind ≡ 2 → told input out work old ≡ old
+  pub told-refused : (old : List Added) → (proposed input out work).answer.kind ≡ 2 → told input out work old ≡ old
   unfolding told
   told-refused old h = rw (h, told)
 
-  pub told-done : (old : List ℕ) → (proposed input out work).answer.kind ≡ 0 → told input out work old ≡ over (lines_from 0 (finished (events input))) old
+  pub told-done : (old : List Added) → (proposed input out work).answer.kind ≡ 0 → told input out work old ≡ over (lines_from 0 (finished (events input))) old
   unfolding told
   told-done old h = rw (h, told)

@@ -15,6 +15,7 @@ use Rattle.graph.specs.Conflict as Conflict
 use Rattle.graph.specs.Transactions as Transactions
 use Rattle.graph.specs.Edges as Edges
 use Rattle.looking.specs.Refusals as Refusals
+use Rattle.proposal.specs.declared.Added.{Added}
 use Rattle.proposal.specs.Walk as Walk
 use Rattle.proposal.specs.Walk.{events_in, finished}
 use Rattle.proposal.specs.Proposed as Whole
@@ -27,9 +28,12 @@ by t o = record { thread = t; op = o }
 record Example : Type 0 where
   events : List Event
   recording : List Event
-  lines : List ℕ
+  lines : List Added
 
-abbrev example : List Event → List Event → List ℕ → Example
+abbrev line : ℕ → ℕ → Added
+line t k = record { thread = t; before = k }
+
+abbrev example : List Event → List Event → List Added → Example
 example es rs l = record { events = es; recording = rs; lines = l }
 
 abbrev p3 : List Event
@@ -45,25 +49,25 @@ abbrev table : List Example
 table =
     -- P1, P3 becomes P4, and P4 needs none
     example [] [] []
-    ∷ example p3 p4 (0 ∷ 3 ∷ [])
+    ∷ example p3 p4 (line 0 3 ∷ [])
     ∷ example p4 p4 []
     -- P6: before the second acquire
     ∷ example
     (by 0 (Fork 1) ∷ by 0 (Acquire 0) ∷ by 0 (Release 0) ∷ by 1 (Acquire 0) ∷ by 1 (Release 0) ∷ by 0 (Acquire 0) ∷ [])
     (by 0 (Fork 1) ∷ by 0 (Acquire 0) ∷ by 0 (Release 0) ∷ by 1 (Acquire 0) ∷ by 1 (Release 0) ∷ by 0 Yield ∷ by 0 (Acquire 0) ∷ [])
-    (0 ∷ 5 ∷ [])
+    (line 0 5 ∷ [])
     -- P8 needs none
     ∷ example p8 p8 []
     -- P9: a cycle of three
     ∷ example
     (by 0 (Fork 1) ∷ by 0 (Fork 2) ∷ by 0 Yield ∷ by 0 (Write 0 1) ∷ by 1 (Read 0 1) ∷ by 1 (Write 1 1) ∷ by 2 (Read 1 1) ∷ by 2 (Write 2 1) ∷ by 0 (Read 2 1) ∷ [])
     (by 0 (Fork 1) ∷ by 0 (Fork 2) ∷ by 0 Yield ∷ by 0 (Write 0 1) ∷ by 1 (Read 0 1) ∷ by 1 (Write 1 1) ∷ by 2 (Read 1 1) ∷ by 2 (Write 2 1) ∷ by 0 Yield ∷ by 0 (Read 2 1) ∷ [])
-    (0 ∷ 8 ∷ [])
+    (line 0 8 ∷ [])
     -- two yields, of two threads: the second is needed in the recording that has the first
     ∷ example
     (by 0 (Fork 1) ∷ by 0 (Write 0 1) ∷ by 1 (Write 0 2) ∷ by 0 (Write 0 3) ∷ by 1 (Write 0 4) ∷ by 1 (Write 0 5) ∷ [])
     (by 0 (Fork 1) ∷ by 0 (Write 0 1) ∷ by 1 (Write 0 2) ∷ by 0 Yield ∷ by 0 (Write 0 3) ∷ by 1 Yield ∷ by 1 (Write 0 4) ∷ by 1 (Write 0 5) ∷ [])
-    (0 ∷ 3 ∷ 1 ∷ 4 ∷ [])
+    (line 0 3 ∷ line 1 4 ∷ [])
     ∷ []
 
 -- the definitions give what a row says

@@ -17,7 +17,8 @@ use Rattle.record.specs.Record.{kind}
 use Rattle.replay.specs.declared.State.{State}
 use Rattle.replay.specs.Machine.{fresh, forked, waitless, waits_on, life_of, wait_of, wait_before, finds, checks, fault_of, act, next, after, possible}
 use Rattle.lists.proofs.Tests.{by, by-same, T_of}
-use Rattle.graph.specs.Transactions.{Tally, none_yet, current_of, begins, belongs, ends, tallied, tally_from}
+use Rattle.graph.specs.declared.Tally.{Tally}
+use Rattle.graph.specs.Transactions.{none_yet, current_of, begins, belongs, ends, tallied, tally_from}
 use Rattle.graph.proofs.Numbers.{sane-none, current-other, open_of}
 use Rattle.second.proofs.Possible.{met, first_fine}
 use Rattle.proposal.specs.Walk.{yield_of}

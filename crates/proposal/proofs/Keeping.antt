@@ -4,6 +4,7 @@ use native.Mathlib.Omega.{arith}
 use mathlib.Core.Path.{◌≡◌, refl, sym, ap, ap₂, ◌∙◌, subst}
 use mathlib.Core.Bool.{Bool, true, false, cond, ◌&&◌, ◌||◌}
 use mathlib.Core.List.{List, [], ◌∷◌, ◌++◌}
+use Rattle.std.specs.Prelude.{Ok, Err}
 use lib.ListN.{length, get_or, drop, length-append}
 use lib.Seq.{append_snoc}
 use lib.Dec.{T, eqb, leb, ltb}
@@ -15,7 +16,9 @@ use Rattle.lists.proofs.Tests.{by}
 use Rattle.lists.proofs.Lists.{map-append}
 use Rattle.rows.specs.Bits.{begun}
 use Rattle.graph.specs.Conflict.{joins}
-use Rattle.graph.specs.Transactions.{Tally, none_yet, current_of, begins, belongs, full, tallied, tally_from, Labelled, labelled_from, labelled, transactions, transaction_limit}
+use Rattle.graph.specs.declared.Labelled.{Labelled}
+use Rattle.graph.specs.declared.Tally.{Tally}
+use Rattle.graph.specs.Transactions.{none_yet, current_of, begins, belongs, full, tallied, tally_from, labelled_from, labelled, transactions, transaction_limit}
 use Rattle.graph.specs.Edges.{edges}
 use Rattle.graph.specs.Held.{labelled_as}
 use Rattle.graph.proofs.Labels.{ev, labelled-events}
@@ -34,7 +37,7 @@ use Rattle.proposal.proofs.Cycles.{tally, labelled-more, begins-none, needs-open
 use Rattle.proposal.proofs.Walks.{Fine, inside, ahead, orderly-next, orderly-yield, placed-yield, placed-alone, grown-yield, grown-alone}
 use Rattle.proposal.proofs.Bytes.{few-open}
 use Rattle.proposal.proofs.Weaving.{placed-unmarked, placed-marked}
-use Rattle.proposal.proofs.Putting.{none-full, is-full, put-none}
+use Rattle.proposal.proofs.Putting.{not-both, same-mark, same-number, put-none}
 
 -- Cells and rows hold the labelled records, and the tally is theirs
 pub record Represents (built : List Event) (k : Kept) : Type 0 where
@@ -161,10 +164,10 @@ full-over s e h = by (begins s e)
 
 -- What a step answers and leaves
 pub record Right (built : List Event) (k : Kept) (e : Event) (s : Stepping) : Type 0 where
-  pub number_is : s.number ≡ first_fault (room_checks built e)
-  pub placed-is : placed_as s.mark e ≡ placed built e
-  pub mark-bit : s.mark ≤ 1
-  pub represents : s.number ≡ 0 → Represents (grown built e) s.kept
+  pub refused : (n : ℕ) → s.answer ≡ Err n → n ≡ first_fault (room_checks built e)
+  pub room : (mark : Bool) → s.answer ≡ Ok mark → first_fault (room_checks built e) ≡ 0
+  pub placed-is : (mark : Bool) → s.answer ≡ Ok mark → placed_as mark e ≡ placed built e
+  pub represents : (mark : Bool) → s.answer ≡ Ok mark → Represents (grown built e) s.kept
   pub rest : drop 4096 s.kept.rows ≡ drop 4096 k.rows
 
 module _ (built : List Event) (e : Event) (es : List Event) (f : Fine built (e ∷ es)) (k : Kept) (r : Represents built k) where
@@ -172,7 +175,7 @@ module _ (built : List Event) (e : Event) (es : List Event) (f : Fine built (e �
   s₀ = tally built
 
   -- the last event of a step, put after front, which holds what is built and maybe a yield
-  module _ (front : List Event) (mark : ℕ) (bit : mark ≤ 1) (j : Kept) (q : Represents front j) (ok : Orderly (front ++ (e ∷ [])))
+  module _ (front : List Event) (mark : Bool) (j : Kept) (q : Represents front j) (ok : Orderly (front ++ (e ∷ [])))
       (none : cyclic (edges (labelled (front ++ (e ∷ [])))) ≡ false) (is : grown built e ≡ front ++ (e ∷ [])) (short : length (grown built e) ≤ 1024)
       (as-placed : placed_as mark e ≡ placed built e) (kept : drop 4096 j.rows ≡ drop 4096 k.rows) where
     transactions-are : transactions (grown built e) ≡ (tallied (tally front) e).count
@@ -181,45 +184,48 @@ module _ (built : List Event) (e : Event) (es : List Event) (f : Fine built (e �
 
     last-right : Right built k e (last_in mark j e)
     last-right = by (full j.tally e)
-        (λ h. record {
-          number_is = is-full j e h ∙ sym (room-full built e short (omega (arith, transactions-are, full-over (tally front) e (ap (λ t. full t e) (sym q.tally-is) ∙ h))));
-          placed-is = as-placed;
-          mark-bit = bit;
-          represents = λ z. absurd (omega (arith, z, is-full j e h));
+        (λ h. let is-refused : (last_in mark j e).answer ≡ Err 13 = ap (λ b. cond b (Err 13) (Ok mark)) h in
+        record {
+          refused = λ n z. same-number (sym z ∙ is-refused)
+              ∙ sym (room-full built e short (omega (arith, transactions-are, full-over (tally front) e (ap (λ t. full t e) (sym q.tally-is) ∙ h))));
+          room = λ m z. absurd (not-both (sym z ∙ is-refused));
+          placed-is = λ m z. absurd (not-both (sym z ∙ is-refused));
+          represents = λ m z. absurd (not-both (sym z ∙ is-refused));
           rest = ap (λ l. drop 4096 l.rows) (put-none j e h) ∙ kept;
         })
         (λ h. let few : (tallied (tally front) e).count ≤ 512 = counted-few (tally front) e q.holds.rows.most (ap (λ t. full t e) (sym q.tally-is) ∙ h) in
+        let is-placed : (last_in mark j e).answer ≡ Ok mark = ap (λ b. cond b (Err 13) (Ok mark)) h in
         record {
-          number_is = none-full j e h ∙ sym (room-none built e short (omega (arith, transactions-are)));
-          placed-is = as-placed;
-          mark-bit = bit;
-          represents = λ z. subst (λ l. Represents l (put_in j e)) (sym is) (put_right front e ok j q few none);
+          refused = λ n z. absurd (not-both (sym is-placed ∙ z));
+          room = λ m z. room-none built e short (omega (arith, transactions-are));
+          placed-is = λ m z. ap (λ b. placed_as b e) (same-mark (sym z ∙ is-placed)) ∙ as-placed;
+          represents = λ m z. subst (λ l. Represents l (put_in j e)) (sym is) (put_right front e ok j q few none);
           rest = put_rest front e ok j q few ∙ kept;
         })
 
   -- no room for the records
-  short-right : (mark : ℕ) → mark ≤ 1 → 1024 < length (grown built e) → placed_as mark e ≡ placed built e → Right built k e (step_as 15 mark k)
-  short-right mark bit h as-placed = record {
-    number_is = sym (room-short built e h);
-    placed-is = as-placed;
-    mark-bit = bit;
-    represents = λ z. absurd (omega (arith, z));
+  short-right : 1024 < length (grown built e) → Right built k e (step_as (Err 15) k)
+  short-right h = record {
+    refused = λ n z. same-number (sym z) ∙ sym (room-short built e h);
+    room = λ m z. absurd (not-both (sym z));
+    placed-is = λ m z. absurd (not-both (sym z));
+    represents = λ m z. absurd (not-both (sym z));
     rest = refl;
   }
 
   -- it needs no yield
   module _ (h : needs_yield built e ≡ false) where
-    alone-placed : placed_as 0 e ≡ placed built e
-    alone-placed = placed-unmarked 0 e refl ∙ sym (placed-alone built e h)
+    alone-placed : placed_as false e ≡ placed built e
+    alone-placed = placed-unmarked false e refl ∙ sym (placed-alone built e h)
 
-    alone-right : (n : ℕ) → n ≡ length built → Right built k e (cond (ltb 1023 n) (step_as 15 0 k) (last_in 0 k e))
+    alone-right : (n : ℕ) → n ≡ length built → Right built k e (cond (ltb 1023 n) (step_as (Err 15) k) (last_in false k e))
     unfolding needs_yield
     alone-right n size =
         let long : length (grown built e) ≡ length built + 1 = ap length (grown-alone built e h) ∙ length-append built (e ∷ []) in
         by (ltb 1023 n)
-        (λ b. subst (Right built k e) (sym (ap (λ c. cond c (step_as 15 0 k) (last_in 0 k e)) b)) (short-right 0 (omega arith) (omega (arith, long, size, ltb-true 1023 n b)) alone-placed))
-        (λ b. subst (Right built k e) (sym (ap (λ c. cond c (step_as 15 0 k) (last_in 0 k e)) b))
-        (last-right built 0 (omega arith) k r (orderly-next built e es f) h (grown-alone built e h) (omega (arith, long, size, ltb-false 1023 n b)) alone-placed refl))
+        (λ b. subst (Right built k e) (sym (ap (λ c. cond c (step_as (Err 15) k) (last_in false k e)) b)) (short-right (omega (arith, long, size, ltb-true 1023 n b))))
+        (λ b. subst (Right built k e) (sym (ap (λ c. cond c (step_as (Err 15) k) (last_in false k e)) b))
+        (last-right built false k r (orderly-next built e es f) h (grown-alone built e h) (omega (arith, long, size, ltb-false 1023 n b)) alone-placed refl))
 
   -- it needs one
   module _ (h : needs_yield built e ≡ true) where
@@ -229,8 +235,8 @@ module _ (built : List Event) (e : Event) (es : List Event) (f : Fine built (e �
     opened : begins s₀ e ≡ false
     opened = needs-open built r.holds.rows.none e h
 
-    yield-placed : placed_as 1 e ≡ placed built e
-    yield-placed = placed-marked 1 e (λ z. absurd (omega (arith, z))) ∙ sym (placed-yield built e h)
+    yield-placed : placed_as true e ≡ placed built e
+    yield-placed = placed-marked true e refl ∙ sym (placed-yield built e h)
 
     grown-is : grown built e ≡ (built ++ (y ∷ [])) ++ (e ∷ [])
     grown-is = grown-yield built e h ∙ sym (append_snoc built y (e ∷ []))
@@ -247,13 +253,13 @@ module _ (built : List Event) (e : Event) (es : List Event) (f : Fine built (e �
     few-yield : (tallied s₀ y).count ≤ 512
     few-yield = omega (arith, yield-count, r.holds.rows.most)
 
-    yield-right : (n : ℕ) → n ≡ length built → Right built k e (cond (ltb 1022 n) (step_as 15 1 k) (last_in 1 (put_in k y) e))
+    yield-right : (n : ℕ) → n ≡ length built → Right built k e (cond (ltb 1022 n) (step_as (Err 15) k) (last_in true (put_in k y) e))
     yield-right n size =
         let long : length (grown built e) ≡ length built + 2 = ap length (grown-yield built e h) ∙ length-append built (y ∷ e ∷ []) in
         by (ltb 1022 n)
-        (λ b. subst (Right built k e) (sym (ap (λ c. cond c (step_as 15 1 k) (last_in 1 (put_in k y) e)) b)) (short-right 1 (omega arith) (omega (arith, long, size, ltb-true 1022 n b)) yield-placed))
-        (λ b. subst (Right built k e) (sym (ap (λ c. cond c (step_as 15 1 k) (last_in 1 (put_in k y) e)) b))
-        (last-right (built ++ (y ∷ [])) 1 (omega arith) (put_in k y)
+        (λ b. subst (Right built k e) (sym (ap (λ c. cond c (step_as (Err 15) k) (last_in true (put_in k y) e)) b)) (short-right (omega (arith, long, size, ltb-true 1022 n b))))
+        (λ b. subst (Right built k e) (sym (ap (λ c. cond c (step_as (Err 15) k) (last_in true (put_in k y) e)) b))
+        (last-right (built ++ (y ∷ [])) true (put_in k y)
         (put_right built y yield-ok k r few-yield (yield-none built e r.holds.rows.none opened (inside built e es f) (ahead built e es f)))
         orderly-both (after_none built e r.holds.rows.none opened (inside built e es f) (ahead built e es f)) grown-is
         (omega (arith, long, size, ltb-false 1022 n b)) yield-placed (put_rest built y yield-ok k r few-yield)))
@@ -263,8 +269,8 @@ module _ (built : List Event) (e : Event) (es : List Event) (f : Fine built (e �
   unfolding stepping
   stepping-right n size =
       let same : needing k.cells k.rows k.tally.current e ≡ needs_yield built e = needing-right built e (orderly-next built e es f) k r in
-      let yielding : Stepping = cond (ltb 1022 n) (step_as 15 1 k) (last_in 1 (put_in k (yield_of e.thread)) e) in
-      let plain : Stepping = cond (ltb 1023 n) (step_as 15 0 k) (last_in 0 k e) in
+      let yielding : Stepping = cond (ltb 1022 n) (step_as (Err 15) k) (last_in true (put_in k (yield_of e.thread)) e) in
+      let plain : Stepping = cond (ltb 1023 n) (step_as (Err 15) k) (last_in false k e) in
       by (needs_yield built e)
       (λ h. subst (Right built k e) (sym (ap (λ b. cond b yielding plain) (same ∙ h))) (yield-right h n size))
       (λ h. subst (Right built k e) (sym (ap (λ b. cond b yielding plain) (same ∙ h))) (alone-right h n size))

@@ -1,20 +1,23 @@
 -- The walk under way, as the code goes over the events: the laws that it cites.
-use Prim.Native.Nat.{ℕ, zero, suc, ◌+◌, ◌≤◌, ◌<◌}
+use Prim.Native.Nat.{ℕ, zero, suc, ◌+◌, ◌/◌, ◌≤◌, ◌<◌}
 use native.Mathlib.Omega.{arith}
 use mathlib.Core.Path.{◌≡◌, refl, sym, ap, ap₂, ◌∙◌, subst}
 use mathlib.Core.Logic.{◌≢◌}
-use mathlib.Core.Bool.{◌&&◌}
+use mathlib.Core.Bool.{Bool, true, false, ◌&&◌}
+use Rattle.std.specs.Prelude.{Ok, Err}
 use mathlib.Core.List.{List, [], ◌∷◌, ◌++◌, append_assoc, append-nil}
 use lib.ListN.{length, get_or, set, drop, length-append, drop_of_length-le, length-map}
 use lib.Seq.{drop-cons, get_or-set_same, get_or-set_other}
 use lib.Dec.{T, leb, leb→le}
+use mir.Val.{bool_byte}
 use Rattle.record.specs.declared.Event.{Event}
-use Rattle.record.specs.declared.Refusal.{Refusal}
-use Rattle.record.specs.Faults.{first_fault}
-use Rattle.record.specs.Record.{kind, target, value, target_limit, in_range}
+use Rattle.record.specs.Faults.{Refusal, first_fault}
+use Rattle.looking.specs.Refusals.{events}
+use Rattle.looking.proofs.Scanned.{record_in, event-at}
+use Rattle.record.specs.Record.{event, kind, target, value, target_limit, in_range}
 use Rattle.replay.specs.Machine.{fresh, possible}
 use Rattle.lists.specs.Lists.{all_of}
-use Rattle.lists.proofs.Tests.{by-same, and_left}
+use Rattle.lists.proofs.Tests.{and_left}
 use Rattle.lists.proofs.Lists.{map-append}
 use Rattle.graph.specs.Held.{past_end}
 use Rattle.proposal.specs.Walk.{Placed, events_in, placed, grown, walked, finished, room_checks, stop}
@@ -24,24 +27,29 @@ use Rattle.proposal.proofs.Walks.{Fine, next-ranged, fine-next, start_fine, stop
 use Rattle.proposal.proofs.Weaving.{placed-unmarked, placed-marked}
 use Rattle.proposal.proofs.Keeping.{Represents, Right, stepping-right}
 
+-- a part of a recording that is cut off as record i is read as its event
+pub event-is : (input bytes : List ℕ) (i : ℕ) → i < length input / 8 → bytes ≡ record_in input i → (e : Event) → e ≡ event bytes → e ≡ get_or (events input) i past_end
+event-is input bytes i more is e own = own ∙ ap event is ∙ sym (event-at input i past_end more)
+
 -- marks past the first n don't matter
-woven-set : (n i : ℕ) (es : List Event) (marks : List ℕ) (m : ℕ) → n ≤ i → woven n es (set marks i m) ≡ woven n es marks
+woven-set : (n i : ℕ) (es : List Event) (marks : List Bool) (m : Bool) → n ≤ i → woven n es (set marks i m) ≡ woven n es marks
 unfolding woven
 woven-set zero i es marks m h = refl
 woven-set (suc n) i es marks m h = ap₂ (λ l a. l ++ placed_as a (get_or es n past_end))
-    (woven-set n i es marks m (omega arith)) (get_or-set_other marks i n m 0 (λ e. absurd (omega arith)))
+    (woven-set n i es marks m (omega arith)) (get_or-set_other marks i n m false (λ e. absurd (omega arith)))
 
 -- an event with its mark is one record, or two
-placed-size : (mark : ℕ) (e : Event) → mark ≤ 1 → length (placed_as mark e) ≡ 1 + mark
-placed-size mark e h = by-same mark 0
-    (λ q. omega (arith, ap length (placed-unmarked mark e q), q))
-    (λ d. omega (arith, ap length (placed-marked mark e d), one d))
-  where
-    one : (mark ≡ 0 → ⊥) → mark ≡ 1
-    one d = omega arith
+-- how many a mark adds
+pub bit-small : (mark : Bool) → bool_byte mark ≤ 1
+bit-small true = omega arith
+bit-small false = omega arith
+
+placed-size : (mark : Bool) (e : Event) → length (placed_as mark e) ≡ 1 + bool_byte mark
+placed-size true e = ap length (placed-marked true e refl)
+placed-size false e = ap length (placed-unmarked false e refl)
 
 -- The first i events are walked over: what is kept represents what is built of them, and the walk goes on with the rest
-pub record Under (es : List Event) (marks work₀ : List ℕ) (k : Kept) (built i : ℕ) : Type 0 where
+pub record Under (es : List Event) (marks : List Bool) (work₀ : List ℕ) (k : Kept) (built i : ℕ) : Type 0 where
   pub represents : Represents (events_in (woven i es marks)) k
   pub fine : Fine (events_in (woven i es marks)) (drop i es)
   pub size : built ≡ length (events_in (woven i es marks))
@@ -50,7 +58,7 @@ pub record Under (es : List Event) (marks work₀ : List ℕ) (k : Kept) (built 
   pub rest : drop 4096 k.rows ≡ drop 4096 work₀
 
 module _ (es : List Event) (work₀ : List ℕ) where
-  pub under_none : (marks : List ℕ) (k : Kept) → T (possible fresh es) → T (all_of in_range es) → Represents [] k → drop 4096 k.rows ≡ drop 4096 work₀
+  pub under_none : (marks : List Bool) (k : Kept) → T (possible fresh es) → T (all_of in_range es) → Represents [] k → drop 4096 k.rows ≡ drop 4096 work₀
       → Under es marks work₀ k 0 0
   unfolding woven finished
   under_none marks k can fit r kept = record {
@@ -62,7 +70,7 @@ module _ (es : List Event) (work₀ : List ℕ) where
     rest = kept;
   }
 
-  module _ (marks : List ℕ) (k : Kept) (built i : ℕ) (u : Under es marks work₀ k built i) where
+  module _ (marks : List Bool) (k : Kept) (built i : ℕ) (u : Under es marks work₀ k built i) where
     abbrev front : List Event
     front = events_in (woven i es marks)
 
@@ -97,25 +105,25 @@ module _ (es : List Event) (work₀ : List ℕ) where
 
       module _ (s : Stepping) (r : Right front k e s) where
         -- one more
-        module _ (none : s.number ≡ 0) (in-marks : i < length marks) where
-          abbrev marks' : List ℕ
-          marks' = set marks i s.mark
+        module _ (mark : Bool) (none : s.answer ≡ Ok mark) (in-marks : i < length marks) where
+          abbrev marks' : List Bool
+          marks' = set marks i mark
 
           woven-next : woven (suc i) es marks' ≡ woven i es marks ++ placed front e
           unfolding woven
-          woven-next = ap₂ (λ l m. l ++ placed_as m e) (woven-set i i es marks s.mark (omega arith)) (get_or-set_same marks i s.mark 0 in-marks)
-              ∙ ap (λ l. woven i es marks ++ l) r.placed-is
+          woven-next = ap₂ (λ l m. l ++ placed_as m e) (woven-set i i es marks mark (omega arith)) (get_or-set_same marks i mark false in-marks)
+              ∙ ap (λ l. woven i es marks ++ l) (r.placed-is mark none)
 
           front-next : events_in (woven (suc i) es marks') ≡ grown front e
           unfolding grown
           front-next = ap events_in woven-next ∙ map-append (λ p. p.event) (woven i es marks) (placed front e)
 
-          pub under_next : (built' : ℕ) → built' ≡ built + (1 + s.mark) → Under es marks' work₀ s.kept built' (suc i)
+          pub under_next : (built' : ℕ) → built' ≡ built + (1 + bool_byte mark) → Under es marks' work₀ s.kept built' (suc i)
           unfolding walked grown
           under_next built' q =
-              let room : first_fault (room_checks front e) ≡ 0 = sym r.number_is ∙ none in
+              let room : first_fault (room_checks front e) ≡ 0 = r.room mark none in
               record {
-                represents = subst (λ l. Represents l s.kept) (sym front-next) (r.represents none);
+                represents = subst (λ l. Represents l s.kept) (sym front-next) (r.represents mark none);
                 fine = subst (λ l. Fine l later) (sym front-next) (fine-next front e later fine-now);
                 size = omega (
                   arith,
@@ -124,8 +132,8 @@ module _ (es : List Event) (work₀ : List ℕ) where
                   ap length front-next,
                   length-append front (events_in (placed front e)),
                   length-map (placed front e) (λ p. p.event),
-                  ap length (sym r.placed-is),
-                  placed-size s.mark e r.mark-bit,
+                  ap length (sym (r.placed-is mark none)),
+                  placed-size mark e,
                 );
                 stops = u.stops ∙ ap (stop front i) next ∙ stop-on front i e later room ∙ ap (λ l. stop l (suc i) later) (sym front-next);
                 finishes = u.finishes ∙ ap (λ l. woven i es marks ++ walked front l) next
@@ -135,16 +143,13 @@ module _ (es : List Event) (work₀ : List ℕ) where
               }
 
         -- there is no room
-        pub walked_stop : s.number ≢ 0 → Walked es marks work₀ s.kept.rows (record { number = s.number; place = i })
-        walked_stop some = go s.number refl
-          where
-            go : (n : ℕ) → s.number ≡ n → Walked es marks work₀ s.kept.rows (record { number = s.number; place = i })
-            go zero q = absurd (some q)
-            go (suc n) q = record {
-              stopped = ap (λ (m : ℕ). record { number = m; place = i }) q ∙ sym (u.stops ∙ ap (stop front i) next ∙ stop-at front i e later n (sym r.number_is ∙ q));
-              marked = λ z. absurd (some z);
-              rest = r.rest ∙ u.rest;
-            }
+        pub walked_stop : (n : ℕ) → s.answer ≡ Err n → n ≢ 0 → Walked es marks work₀ s.kept.rows (record { number = n; place = i })
+        walked_stop zero q some = absurd (some refl)
+        walked_stop (suc n) q some = record {
+          stopped = sym (u.stops ∙ ap (stop front i) next ∙ stop-at front i e later n (sym (r.refused (suc n) q)));
+          marked = λ z. absurd (some z);
+          rest = r.rest ∙ u.rest;
+        }
 
     -- all are walked over
     pub walked_end : i ≡ length es → Walked es marks work₀ k.rows (record { number = 0; place = 0 })
@@ -158,5 +163,5 @@ module _ (es : List Event) (work₀ : List ℕ) where
         }
 
 -- from the rows that the walk began with to those that were there before
-pub walked_from : (es : List Event) (marks work w w' : List ℕ) (r : Refusal) → drop 4096 w ≡ drop 4096 work → Walked es marks w w' r → Walked es marks work w' r
+pub walked_from : (es : List Event) (marks : List Bool) (work w w' : List ℕ) (r : Refusal) → drop 4096 w ≡ drop 4096 work → Walked es marks w w' r → Walked es marks work w' r
 walked_from es marks work w w' r q walk = record { stopped = walk.stopped; marked = walk.marked; rest = walk.rest ∙ q }

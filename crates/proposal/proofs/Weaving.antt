@@ -1,32 +1,33 @@
 -- Laws of the finished recording as events and marks, event after event.
-use Prim.Native.Nat.{ℕ, zero, suc, ◌+◌, ◌*◌, ◌≤◌, ◌<◌}
+use Prim.Native.Nat.{ℕ, zero, suc, ◌+◌, ◌≤◌, ◌<◌}
 use native.Mathlib.Omega.{arith}
 use native.Mathlib.Nat.{add-zero, zero-add, add-suc, suc-add}
 use mathlib.Core.Path.{◌≡◌, refl, sym, ap, ap₂, ◌∙◌, subst}
 use mathlib.Core.Bool.{Bool, true, false, not, cond}
 use mathlib.Core.List.{List, [], ◌∷◌, ◌++◌, append-nil}
-use lib.ListN.{length, get_or, length-append}
-use borrow.Author.Tests.{eq-eqb, ne_eqb}
+use lib.ListN.{length, get_or, set, length-set, length-append}
 use Rattle.record.specs.declared.Event.{Event}
 use Rattle.record.specs.Record.{encoded}
 use Rattle.lists.specs.Lists.{keep, each, over, written_at}
 use Rattle.lists.proofs.Tests.{by, by-same}
 use Rattle.lists.proofs.Lists.{map-append, each_append, keep-true, keep-false, keep_append}
 use Rattle.lists.proofs.Places.{written_start, written-more, length-written}
+use Rattle.lists.proofs.Places.{over-more as over-one-more}
 use Rattle.graph.specs.Held.{past_end}
+use Rattle.proposal.specs.declared.Added.{Added}
 use Rattle.proposal.specs.Walk.{Placed, given, yield_of, yield_for, events_in}
 use Rattle.proposal.specs.Proposed.{bytes_of, yields_in, lines_from}
 use Rattle.proposal.specs.Weaving.{placed_as, woven, bytes_in}
 
 -- ---- one event with its mark
 
-pub placed-unmarked : (mark : ℕ) (e : Event) → mark ≡ 0 → placed_as mark e ≡ given e ∷ []
+pub placed-unmarked : (mark : Bool) (e : Event) → mark ≡ false → placed_as mark e ≡ given e ∷ []
 unfolding placed_as
-placed-unmarked mark e h = ap (λ b. cond b (given e ∷ []) (yield_for e ∷ given e ∷ [])) (eq-eqb mark 0 h)
+placed-unmarked mark e h = ap (λ b. cond b (yield_for e ∷ given e ∷ []) (given e ∷ [])) h
 
-pub placed-marked : (mark : ℕ) (e : Event) → (mark ≡ 0 → ⊥) → placed_as mark e ≡ yield_for e ∷ given e ∷ []
+pub placed-marked : (mark : Bool) (e : Event) → mark ≡ true → placed_as mark e ≡ yield_for e ∷ given e ∷ []
 unfolding placed_as
-placed-marked mark e h = ap (λ b. cond b (given e ∷ []) (yield_for e ∷ given e ∷ [])) (ne_eqb mark 0 h)
+placed-marked mark e h = ap (λ b. cond b (yield_for e ∷ given e ∷ []) (given e ∷ [])) h
 
 -- ---- bytes
 
@@ -34,10 +35,10 @@ bytes-append : (a b : List Placed) → bytes_in (a ++ b) ≡ bytes_in a ++ bytes
 unfolding bytes_in bytes_of
 bytes-append a b = ap (each encoded) (map-append (λ p. p.event) a b) ∙ each_append encoded (events_in a) (events_in b)
 
-pub bytes_next : (n : ℕ) (es : List Event) (marks : List ℕ)
-    → bytes_in (woven (suc n) es marks) ≡ bytes_in (woven n es marks) ++ bytes_in (placed_as (get_or marks n 0) (get_or es n past_end))
+pub bytes_next : (n : ℕ) (es : List Event) (marks : List Bool)
+    → bytes_in (woven (suc n) es marks) ≡ bytes_in (woven n es marks) ++ bytes_in (placed_as (get_or marks n false) (get_or es n past_end))
 unfolding woven
-bytes_next n es marks = bytes-append (woven n es marks) (placed_as (get_or marks n 0) (get_or es n past_end))
+bytes_next n es marks = bytes-append (woven n es marks) (placed_as (get_or marks n false) (get_or es n past_end))
 
 pub bytes_one : (e : Event) → bytes_in (given e ∷ []) ≡ encoded e
 unfolding bytes_in bytes_of each
@@ -48,7 +49,7 @@ unfolding bytes_in bytes_of each
 bytes-two e = ap (λ l. encoded (yield_of e.thread) ++ l) (append-nil (encoded e))
 
 -- the first of some have no more bytes
-pub bytes-rise : (i n : ℕ) (es : List Event) (marks : List ℕ) → i ≤ n → length (bytes_in (woven i es marks)) ≤ length (bytes_in (woven n es marks))
+pub bytes-rise : (i n : ℕ) (es : List Event) (marks : List Bool) → i ≤ n → length (bytes_in (woven i es marks)) ≤ length (bytes_in (woven n es marks))
 bytes-rise i zero es marks h = subst (λ k. length (bytes_in (woven k es marks)) ≤ length (bytes_in (woven 0 es marks))) (sym none) (omega arith)
   where
     none : i ≡ 0
@@ -59,7 +60,7 @@ bytes-rise i (suc n) es marks h = by-same i (suc n)
       arith,
       bytes-rise i n es marks (least d),
       ap length (bytes_next n es marks),
-      length-append (bytes_in (woven n es marks)) (bytes_in (placed_as (get_or marks n 0) (get_or es n past_end))),
+      length-append (bytes_in (woven n es marks)) (bytes_in (placed_as (get_or marks n false) (get_or es n past_end))),
     ))
   where
     least : (i ≡ suc n → ⊥) → i ≤ n
@@ -73,19 +74,19 @@ over-more old new more =
     ∙ written_start old (new ++ more)
 
 -- Writing under way: the first i of n events are written
-pub record Written (es : List Event) (marks out₀ out : List ℕ) (end i : ℕ) : Type 0 where
+pub record Written (es : List Event) (marks : List Bool) (out₀ out : List ℕ) (end i : ℕ) : Type 0 where
   pub size : length out ≡ length out₀
   pub place : end ≡ length (bytes_in (woven i es marks))
   pub made : out ≡ over (bytes_in (woven i es marks)) out₀
 
-module _ (es : List Event) (marks out₀ : List ℕ) where
+module _ (es : List Event) (marks : List Bool) (out₀ : List ℕ) where
   pub written_none : Written es marks out₀ out₀ 0 0
   unfolding woven bytes_in bytes_of each over
   written_none = record { size = refl; place = refl; made = refl }
 
   module _ (n : ℕ) (out : List ℕ) (end i : ℕ) (room : length (bytes_in (woven n es marks)) ≤ length out₀) (more : i < n) (w : Written es marks out₀ out end i) where
     abbrev of : Event → List ℕ
-    of e = bytes_in (placed_as (get_or marks i 0) e)
+    of e = bytes_in (placed_as (get_or marks i false) e)
 
     abbrev next : List ℕ
     next = of (get_or es i past_end)
@@ -111,7 +112,7 @@ module _ (es : List Event) (marks out₀ : List ℕ) where
 
 -- ---- lines
 
-lines-added : (k : ℕ) (p : Placed) (ps : List Placed) → p.added ≡ true → lines_from k (p ∷ ps) ≡ p.event.thread ∷ k ∷ lines_from k ps
+lines-added : (k : ℕ) (p : Placed) (ps : List Placed) → p.added ≡ true → lines_from k (p ∷ ps) ≡ (record { thread = p.event.thread; before = k }) ∷ lines_from k ps
 unfolding lines_from
 lines-added k p ps h = rw (h, lines_from)
 
@@ -131,8 +132,8 @@ unfolding lines_from keep
 lines-append k [] b = ap (λ n. lines_from n b) (sym (add-zero k))
 lines-append k (p ∷ a) b = by p.added
     (λ h. lines-added k p (a ++ b) h
-    ∙ ap (λ l. p.event.thread ∷ k ∷ l) (lines-append k a b)
-    ∙ ap (λ n. p.event.thread ∷ k ∷ (lines_from k a ++ lines_from (k + n) b)) (sym (ap length (keep-false is_given p a (ap not h))))
+    ∙ ap (λ l. (record { thread = p.event.thread; before = k }) ∷ l) (lines-append k a b)
+    ∙ ap (λ n. (record { thread = p.event.thread; before = k }) ∷ (lines_from k a ++ lines_from (k + n) b)) (sym (ap length (keep-false is_given p a (ap not h))))
     ∙ ap (λ l. l ++ lines_from (k + givens (p ∷ a)) b) (sym (lines-added k p a h)))
     (λ h. lines-given k p (a ++ b) h
     ∙ lines-append (suc k) a b
@@ -141,37 +142,37 @@ lines-append k (p ∷ a) b = by p.added
     ∙ ap (λ l. l ++ lines_from (k + givens (p ∷ a)) b) (sym (lines-given k p a h)))
 
 -- as many of the input as events
-givens-woven : (n : ℕ) (es : List Event) (marks : List ℕ) → givens (woven n es marks) ≡ n
+givens-woven : (n : ℕ) (es : List Event) (marks : List Bool) → givens (woven n es marks) ≡ n
 unfolding woven keep
 givens-woven zero es marks = refl
 givens-woven (suc n) es marks =
     let w : List Placed = woven n es marks in
     let e : Event = get_or es n past_end in
-    let m : ℕ = get_or marks n 0 in
-    let one : length (keep is_given (placed_as m e)) ≡ 1 = by-same m 0
-    (λ q. ap (λ l. length (keep is_given l)) (placed-unmarked m e q) ∙ ap length (keep-true is_given (given e) [] refl))
-    (λ d. ap (λ l. length (keep is_given l)) (placed-marked m e d) ∙ ap length (keep-false is_given (yield_for e) (given e ∷ []) refl ∙ keep-true is_given (given e) [] refl)) in
+    let m : Bool = get_or marks n false in
+    let one : length (keep is_given (placed_as m e)) ≡ 1 = by m
+    (λ d. ap (λ l. length (keep is_given l)) (placed-marked m e d) ∙ ap length (keep-false is_given (yield_for e) (given e ∷ []) refl ∙ keep-true is_given (given e) [] refl))
+    (λ q. ap (λ l. length (keep is_given l)) (placed-unmarked m e q) ∙ ap length (keep-true is_given (given e) [] refl)) in
     omega (arith, ap length (keep_append is_given w (placed_as m e)), length-append (keep is_given w) (keep is_given (placed_as m e)), one, givens-woven n es marks)
 
 -- The lines of the first i events are written, and their yields counted
-pub record Told (es : List Event) (marks lines₀ lines : List ℕ) (yields i : ℕ) : Type 0 where
+pub record Told (es : List Event) (marks : List Bool) (lines₀ lines : List Added) (yields i : ℕ) : Type 0 where
   pub size : length lines ≡ length lines₀
   pub most : yields ≤ i
   pub count : yields ≡ length (yields_in (woven i es marks))
-  pub place : 2 * yields ≡ length (lines_from 0 (woven i es marks))
+  pub place : yields ≡ length (lines_from 0 (woven i es marks))
   pub made : lines ≡ over (lines_from 0 (woven i es marks)) lines₀
 
-module _ (es : List Event) (marks lines₀ : List ℕ) where
+module _ (es : List Event) (marks : List Bool) (lines₀ : List Added) where
   pub told_none : Told es marks lines₀ lines₀ 0 0
   unfolding woven lines_from yields_in keep over
   told_none = record { size = refl; most = omega arith; count = refl; place = refl; made = refl }
 
-  module _ (lines : List ℕ) (yields i : ℕ) (t : Told es marks lines₀ lines yields i) where
+  module _ (lines : List Added) (yields i : ℕ) (t : Told es marks lines₀ lines yields i) where
     abbrev e : Event
     e = get_or es i past_end
 
-    abbrev mark : ℕ
-    mark = get_or marks i 0
+    abbrev mark : Bool
+    mark = get_or marks i false
 
     abbrev before : List Placed
     before = woven i es marks
@@ -185,7 +186,7 @@ module _ (es : List Event) (marks lines₀ : List ℕ) where
     yields-next = ap length (keep_append (λ p. p.added) before (placed_as mark e)) ∙ length-append (keep (λ p. p.added) before) (keep (λ p. p.added) (placed_as mark e))
 
     -- an event without a yield
-    pub told-unmarked : mark ≡ 0 → Told es marks lines₀ lines yields (suc i)
+    pub told-unmarked : mark ≡ false → Told es marks lines₀ lines yields (suc i)
     unfolding lines_from yields_in keep
     told-unmarked h =
         let none : lines_from i (placed_as mark e) ≡ [] = ap (lines_from i) (placed-unmarked mark e h) in
@@ -200,18 +201,22 @@ module _ (es : List Event) (marks lines₀ : List ℕ) where
         }
 
     -- and one with a yield
-    pub told-marked : (lines' : List ℕ) → (mark ≡ 0 → ⊥) → 2 * yields + 2 ≤ length lines → lines' ≡ written_at lines (2 * yields) (e.thread ∷ i ∷ [])
-        → Told es marks lines₀ lines' (suc yields) (suc i)
+    pub told-marked : (own : Event) → own ≡ e → mark ≡ true → yields < length lines
+        → Told es marks lines₀ (set lines yields (record { thread = own.thread; before = i })) (suc yields) (suc i)
     unfolding lines_from yields_in keep
-    told-marked lines' h room q =
-        let new : List ℕ = e.thread ∷ i ∷ [] in
-        let is : lines_from i (placed_as mark e) ≡ new = ap (lines_from i) (placed-marked mark e h) in
-        let all_lines : lines_from 0 (woven (suc i) es marks) ≡ lines_from 0 before ++ new = lines_next ∙ ap (λ l. lines_from 0 before ++ l) is in
+    told-marked own same h room =
+        let new : Added = record { thread = e.thread; before = i } in
+        let front : List Added = lines_from 0 before in
+        let is : lines_from i (placed_as mark e) ≡ new ∷ [] = ap (lines_from i) (placed-marked mark e h) in
+        let all_lines : lines_from 0 (woven (suc i) es marks) ≡ front ++ (new ∷ []) = lines_next ∙ ap (λ l. front ++ l) is in
         let a-yield : length (yields_in (placed_as mark e)) ≡ 1 = ap (λ l. length (yields_in l)) (placed-marked mark e h) in
+        let there : length front < length lines₀ = omega (arith, t.size, t.place, room) in
+        let own-is : set lines yields (record { thread = own.thread; before = i }) ≡ set lines yields new =
+        ap (λ (x : Event). set lines yields (record { thread = x.thread; before = i })) same in
         record {
-          size = ap length q ∙ length-written lines (2 * yields) new room ∙ t.size;
+          size = length-set lines yields (record { thread = own.thread; before = i }) ∙ t.size;
           most = omega (arith, t.most);
           count = omega (arith, t.count, yields-next, a-yield);
-          place = omega (arith, t.place, ap length all_lines, length-append (lines_from 0 before) new);
-          made = q ∙ ap₂ (λ l k. written_at l k new) t.made t.place ∙ over-more lines₀ (lines_from 0 before) new ∙ ap (λ l. over l lines₀) (sym all_lines);
+          place = omega (arith, t.place, ap length all_lines, length-append front (new ∷ []));
+          made = own-is ∙ ap₂ (λ l k. set l k new) t.made t.place ∙ over-one-more front lines₀ new there ∙ ap (λ l. over l lines₀) (sym all_lines);
         }

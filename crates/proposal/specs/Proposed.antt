@@ -1,26 +1,26 @@
 -- The whole promise of proposed yields (document 02, L6): the answer, and what is left in the output and in the work area, of every input, output and work
 -- area.
-use Rattle.std.specs.Prelude.{ℕ, zero, suc, true, false, List, [], ◌∷◌, ◌++◌, length, replicate, leb}
+use Rattle.std.specs.Prelude.{ℕ, zero, suc, true, false, List, [], ◌∷◌, length, replicate, Result, Ok, Err}
 use Rattle.lists.specs.Lists.{keep, each, over}
 use Rattle.record.specs.declared.Event.{Event}
-use Rattle.record.specs.declared.Refusal.{Refusal}
-use Rattle.record.specs.Faults.{Check, check}
+use Rattle.record.specs.Faults.{Refusal, Check}
 use Rattle.record.specs.Record.{encoded}
-use Rattle.record.specs.Answers.{Numbers, refused_as, Ending}
+use Rattle.record.specs.declared.Refusal.{Refusal as Given}
+use Rattle.record.specs.Answers.{Numbers, refusal_of, refused_as, Ending}
 use Rattle.graph.specs.Transactions.{work_size}
-use Rattle.looking.specs.Refusals.{input_checks, refused_by, events}
-use Rattle.proposal.specs.declared.Proposed.{Proposed}
-use Rattle.proposal.specs.declared.Proposed.TheVariants.{Finished, Refused}
+use Rattle.looking.specs.Refusals.{room_checks, refused_by, events}
+use Rattle.proposal.specs.declared.Finished.{Finished}
+use Rattle.proposal.specs.declared.Added.{Added}
 use Rattle.proposal.specs.Walk.{Placed, events_in, finished, stop}
 
 -- This paper's number and values for each case.  0 proposed: the number of bytes written, and of yields added.  2 refused: number and record
-abbrev pub numbers : Proposed → Numbers
-numbers (Finished bytes yields) = record { kind = 0; first = bytes; second = yields }
-numbers (Refused r) = refused_as r
+abbrev pub numbers : Result Finished Given → Numbers
+numbers (Ok f) = record { kind = 0; first = f.bytes; second = f.yields }
+numbers (Err r) = refused_as (refusal_of r)
 
 -- 1 to 4, tried in that order: as judging does, but for 3
 unfoldable pub size_checks : List ℕ → List ℕ → List ℕ → List Check
-size_checks input out work = input_checks input ++ (check 3 0 (leb 8192 (length out)) ∷ check 4 0 (leb work_size (length work)) ∷ [])
+size_checks input out work = room_checks input 8192 out work
 
 -- 1 to 4, then 5 to 13 of the whole input
 abbrev pub refusal : List ℕ → List ℕ → List ℕ → Refusal
@@ -61,12 +61,12 @@ proposed input out work =
 -- ---- What the program prints: a line for each added yield, of its thread and the input record that it stands before
 
 -- k is the number of the first input record that is among these
-unfoldable pub lines_from : ℕ → List Placed → List ℕ
+unfoldable pub lines_from : ℕ → List Placed → List Added
 lines_from k [] = []
-lines_from k (p ∷ ps) = elim p.added [ true ↦ p.event.thread ∷ k ∷ lines_from k ps | false ↦ lines_from (suc k) ps ]
+lines_from k (p ∷ ps) = elim p.added [ true ↦ (record { thread = p.event.thread; before = k }) ∷ lines_from k ps | false ↦ lines_from (suc k) ps ]
 
--- the numbers lent for the lines, at the end: a refused recording has none
-unfoldable pub told : List ℕ → List ℕ → List ℕ → List ℕ → List ℕ
+-- the array lent for the lines, at the end: a refused recording has none
+unfoldable pub told : List ℕ → List ℕ → List ℕ → List Added → List Added
 told input out work old = elim (proposed input out work).answer.kind [ zero ↦ over (lines_from 0 (finished (events input))) old | suc n ↦ old ]
 
 -- Everything above, opened at once, for a proof by computation: `unfolding opened`

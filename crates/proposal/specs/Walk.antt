@@ -3,8 +3,7 @@
 use Rattle.std.specs.Prelude.{ℕ, zero, suc, Bool, true, false, cond, List, [], ◌∷◌, ◌++◌, map, length, leb}
 use Rattle.record.specs.declared.Event.{Event}
 use Rattle.record.specs.declared.Op.TheVariants.{Yield}
-use Rattle.record.specs.declared.Refusal.{Refusal}
-use Rattle.record.specs.Faults.{Check, check, first_fault}
+use Rattle.record.specs.Faults.{Refusal, Check, check, first_fault}
 use Rattle.trace.specs.Paths.{cyclic}
 use Rattle.graph.specs.Transactions.{labelled, transactions, transaction_limit}
 use Rattle.graph.specs.Edges.{edges}

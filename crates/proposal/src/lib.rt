@@ -1,84 +1,70 @@
 // Proposed yields: a recording with a yield put before each record that would be a violation.
 #![tactic(auto)]
 
-mod reading;
 mod walking;
 mod writing;
 
 ghost use Rattle.std.specs.Prelude.{◌≡◌};
-ghost use Rattle.record.specs.Answers.{Ending};
-ghost use Rattle.record.specs.Faults.{first_fault};
+ghost use Rattle.record.specs.Answers.{refusal_in, Ending};
 ghost use Rattle.looking.specs.Refusals.{input_checks, refused_by};
-ghost use Rattle.proposal.specs.Proposed.{numbers, size_checks, proposed, told};
+ghost use Rattle.proposal.specs.Proposed.{numbers, proposed, told};
 
+use graph::Labelled;
 use record::Refusal;
 
-// What comes of it: how many bytes the finished recording has and how many yields were added, or a refusal.
+// What comes of it: how many bytes the finished recording has, and how many yields were added.
 #[derive(Clone, Copy)]
-pub enum Proposed {
-    Finished { bytes: usize, yields: usize },
-    Refused(Refusal),
+pub struct Finished {
+    pub bytes: usize,
+    pub yields: usize,
 }
 
-// Numbers 1 to 4, tried in that order; 0 where none is given.
-fn size_fault(input: &[u8], out: &[u8], work: &[u64]) -> u8
-    ensures { result ≡ first_fault (size_checks input.now out.now work.now) }
+// An added yield: its thread, and the input record that it stands before.
+#[derive(Clone, Copy)]
+pub struct Added {
+    pub thread: u8,
+    pub before: u16,
+}
+
+// Why the recording is refused by itself, whatever room there is.
+fn refusal_of(input: &[u8]) -> Option<Refusal>
+    ensures { refusal_in result ≡ refused_by (input_checks input.now) input.now }
 {
-    let number = looking::input_fault(input);
-    if number != 0 {
-        return number;
-    }
-    if out.len() < 8192 {
-        return 3;
-    }
-    if work.len() < 4096 {
-        return 4;
-    }
-    0
+    looking::look(input, &mut [Labelled::unseen(); 1024]).refusal
 }
 
-// Why the recording is refused by itself, whatever room there is; not where the number is 0.
-fn refusal_of(input: &[u8]) -> Refusal
-    ensures { result ≡ refused_by (input_checks input.now) input.now }
-{
-    let mut threads = [0u8; 1024];
-    let mut kinds = [0u8; 1024];
-    let mut targets = [0u8; 1024];
-    let mut labels = [0u16; 1024];
-    let looked = looking::look(input, &mut threads, &mut kinds, &mut targets, &mut labels);
-    looked.refusal
-}
-
-// Proposes yields as `propose` does, and tells each that is added: two numbers, its thread and the input record that it stands before.
-pub fn report(input: &[u8], out: &mut [u8], work: &mut [u64], lines: &mut [u16; 2048]) -> Proposed
+// Proposes yields as `propose` does, and tells each that is added.
+pub fn report(
+    input: &[u8],
+    out: &mut [u8],
+    work: &mut [u64],
+    lines: &mut [Added; 1024],
+) -> Result<Finished, Refusal>
     ensures { (◌≡◌ {A = Ending} (record { answer = numbers result; out = out.new; work = work.new })
         (proposed input.now out.old work.old))
         × (lines.new ≡ told input.now out.old work.old lines.old) }
 {
-    let number = size_fault(input, &*out, &*work);
-    if number != 0 {
-        return Proposed::Refused(Refusal { number, place: 0 });
+    looking::check_room(input, 8192, out, work)?;
+    if let Some(refusal) = refusal_of(input) {
+        return Err(refusal);
     }
-    let refusal = refusal_of(input);
-    if refusal.number != 0 {
-        return Proposed::Refused(refusal);
-    }
-    let mut marks = [0u8; 1024];
-    let stopped = walking::walk(input, &mut marks, work);
+    let mut marks = [false; 1024];
+    let walked = walking::walk(input, &mut marks, work);
     rows::clear(work);
-    if stopped.number != 0 {
-        return Proposed::Refused(stopped);
-    }
+    walked?;
     let bytes = writing::write_records(input, &marks, out);
     let yields = writing::write_lines(input, &marks, lines);
-    Proposed::Finished { bytes, yields }
+    Ok(Finished { bytes, yields })
 }
 
 // Proposes yields: writes the finished recording over the output.
-pub fn propose(input: &[u8], out: &mut [u8], work: &mut [u64]) -> Proposed
+pub fn propose(input: &[u8], out: &mut [u8], work: &mut [u64]) -> Result<Finished, Refusal>
     ensures { ◌≡◌ {A = Ending} (record { answer = numbers result; out = out.new; work = work.new })
         (proposed input.now out.old work.old) }
 {
-    let mut lines = [0u16; 2048];
+    let mut lines = [Added {
+        thread: 0,
+        before: 0,
+    }; 1024];
     report(input, out, work, &mut lines)
 }

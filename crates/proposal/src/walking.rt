@@ -1,198 +1,129 @@
 // The walk: which records of a possible history would be violations, after the recording built so far, and whether there is room.
-ghost use Rattle.std.specs.Prelude.{◌<◌, ◌≤◌, ◌≡◌, T, length};
+ghost use Rattle.std.specs.Prelude.{◌<◌, ◌≤◌, ◌≡◌, ◌+◌, T, length, IfOk, OnOk};
+ghost use mir.Val.{bool_byte};
+ghost use Rattle.record.specs.Answers.{number_in};
 ghost use Rattle.record.specs.Record.{in_range};
 ghost use Rattle.replay.specs.Machine.{fresh, possible};
 ghost use Rattle.lists.specs.Lists.{all_of};
-ghost use Rattle.graph.specs.Transactions.{tally_of};
+ghost use Rattle.rows.specs.Bits.{begun};
 ghost use Rattle.looking.specs.Refusals.{events};
-ghost use Rattle.second.specs.Cells.{cells_of};
-ghost use Rattle.proposal.specs.Keeping.{kept_of, needing, full_as, put_in, step_as, readied, stepping, Stepping, Walked};
+ghost use Rattle.proposal.specs.Keeping.{nothing, kept_of, needing, full_as, put_in, marked_as, step_as, readied, stepping, Stepping, stopped_as, Walked};
 
-use crate::reading;
-use graph::Numbered;
-use record::{Event, Op, Refusal};
+use graph::{Labelled, Tally};
+use record::{Event, Fault, Op, Refusal};
+use second::Cells;
 
-// Whether an event would be a violation: it begins no transaction and closes a cycle.
-fn needs_yield(
-    locks: &[u16; 32],
-    threads: &[u16; 16],
-    writers: &[u16; 256],
-    readers: &[u16; 4096],
-    work: &[u64],
-    current: &[u16; 16],
-    e: Event,
-) -> bool
-    requires { e.thread < 16 }
-    ensures { result ≡ needing (cells_of locks.now threads.now writers.now readers.now) work.now current.now e }
-{
-    let op = e.op;
-    let kind = record::kind_of(op);
-    let own = current[e.thread as usize];
-    if kind == 9 {
-        return false;
-    }
-    if own == 0 {
-        return false;
-    }
-    let target = record::target_of(op);
-    second::closes(
-        locks,
-        threads,
-        writers,
-        readers,
-        work,
-        own - 1,
-        e.thread,
-        kind,
-        target,
-    )
-}
-
-// Puts an event after the recording built so far. The number is 0; or 13, where it would begin a 513th transaction, and then nothing changes.
-fn put<'a>(
-    locks: &'a mut [u16; 32],
-    threads: &'a mut [u16; 16],
-    writers: &'a mut [u16; 256],
-    readers: &'a mut [u16; 4096],
+// The recording built so far: what the second engine keeps of it, in cells and in the rows lent, its transactions, and how many records it has.
+#[derive(Drop)]
+struct Builder<'a> {
+    cells: Cells,
+    tally: Tally,
     work: &'a mut [u64],
-    current: &'a mut [u16; 16],
-    begun: &'a mut u16,
-    e: Event,
-) -> u8
-    ensures { (result ≡ full_as (tally_of current.old begun.old) e)
-        × (kept_of (cells_of locks.new threads.new writers.new readers.new) work.new current.new begun.new
-        ≡ put_in (kept_of (cells_of locks.old threads.old writers.old readers.old) work.old current.old begun.old) e) }
-{
-    match graph::number(current, begun, e) {
-        Numbered::Of(a) => {
-            let n = *begun;
-            let op = e.op;
-            let kind = record::kind_of(op);
-            let target = record::target_of(op);
-            second::take(
-                locks, threads, writers, readers, work, n, a, e.thread, kind, target,
-            );
-            0
-        }
-        Numbered::Full => 13,
-    }
-}
-
-// A step of the walk: the number of the refusal, or 0; and 1 where a yield is put before the event, or else 0.
-#[derive(Clone, Copy)]
-pub struct Step {
-    pub number: u8,
-    pub mark: u8,
-}
-
-// Makes room for an event after the `built` records so far: puts a yield of its thread where it needs one.
-fn make_room<'a>(
-    locks: &'a mut [u16; 32],
-    threads: &'a mut [u16; 16],
-    writers: &'a mut [u16; 256],
-    readers: &'a mut [u16; 4096],
-    work: &'a mut [u64],
-    current: &'a mut [u16; 16],
-    begun: &'a mut u16,
     built: usize,
-    e: Event,
-) -> Step
-    requires { e.thread < 16 }
-    ensures { ◌≡◌ {A = Stepping} (step_as result.number result.mark (kept_of (cells_of locks.new threads.new writers.new readers.new) work.new current.new begun.new))
-        (readied built (kept_of (cells_of locks.old threads.old writers.old readers.old) work.old current.old begun.old) e) }
-{
-    if needs_yield(locks, threads, writers, readers, work, current, e) {
-        if 1022 < built {
-            return Step {
-                number: 15,
-                mark: 1,
-            };
+}
+
+impl<'a> Builder<'a> {
+    // Nothing is built.
+    fn new(work: &'a mut [u64]) -> Self
+        ensures same_work { result.work.ghost_name ≡ work.entry.ghost_name }
+        ensures starts { (kept_of result ≡ nothing (begun 512 work.old)) × (result.built ≡ 0) }
+    {
+        rows::begin(work, 512);
+        Builder {
+            cells: Cells::idle(),
+            tally: Tally::none_yet(),
+            work,
+            built: 0,
+        }
+    }
+
+    // Whether an event would be a violation: it begins no transaction and closes a cycle.
+    fn needs_yield(&self, e: Event) -> bool
+        requires { e.thread < 16 }
+        ensures { result ≡ needing self.now.cells self.now.work.now self.now.tally.current e }
+    {
+        let own = self.tally.current[e.thread as usize];
+        if matches!(e.op, Op::Join { .. }) || own == 0 {
+            return false;
+        }
+        self.cells.closes(self.work, own - 1, e)
+    }
+
+    // Puts an event after the recording built so far. Where it would begin a 513th transaction nothing changes.
+    fn put(&mut self, e: Event) -> Result<(), Fault>
+        ensures same_work { self.new.work.ghost_name ≡ self.old.work.ghost_name }
+        ensures same_built { self.new.built ≡ self.old.built }
+        ensures puts { (number_in result ≡ full_as self.old.tally e) × (kept_of self.new ≡ put_in (kept_of self.old) e) }
+    {
+        let Some(transaction) = self.tally.number(e) else {
+            return Err(Fault::Transactions);
+        };
+        let n = self.tally.count;
+        self.cells.take(
+            self.work,
+            n,
+            Labelled {
+                transaction,
+                event: e,
+            },
+        );
+        Ok(())
+    }
+
+    // Makes room for an event: puts a yield of its thread where it needs one, and says whether it does.
+    fn make_room(&mut self, e: Event) -> Result<bool, Fault>
+        requires { e.thread < 16 }
+        ensures same_work { self.new.work.ghost_name ≡ self.old.work.ghost_name }
+        ensures same_built { self.new.built ≡ self.old.built }
+        ensures room { OnOk result (self.new.built ≤ 1023) }
+        ensures readies { ◌≡◌ {A = Stepping} (step_as (marked_as result) (kept_of self.new))
+            (readied self.old.built (kept_of self.old) e) }
+    {
+        if !self.needs_yield(e) {
+            if 1023 < self.built {
+                return Err(Fault::Records);
+            }
+            return Ok(false);
+        }
+        if 1022 < self.built {
+            return Err(Fault::Records);
         }
         let added = Event {
             thread: e.thread,
             op: Op::Yield,
         };
-        put(
-            locks, threads, writers, readers, work, current, begun, added,
-        );
-        return Step { number: 0, mark: 1 };
+        self.put(added)?;
+        Ok(true)
     }
-    if 1023 < built {
-        return Step {
-            number: 15,
-            mark: 0,
-        };
+
+    // Puts an event, and before it a yield of its thread where it needs one; says whether it does.
+    fn place(&mut self, e: Event) -> Result<bool, Fault>
+        requires { e.thread < 16 }
+        ensures same_work { self.new.work.ghost_name ≡ self.old.work.ghost_name }
+        ensures counts { IfOk result (λ mark. self.new.built ≡ self.old.built + (1 + bool_byte mark)) }
+        ensures steps { ◌≡◌ {A = Stepping} (step_as (marked_as result) (kept_of self.new))
+            (stepping self.old.built (kept_of self.old) e) }
+    {
+        let mark = self.make_room(e)?;
+        self.put(e)?;
+        self.built += 1 + usize::from(mark);
+        Ok(mark)
     }
-    Step { number: 0, mark: 0 }
 }
 
-// Puts an event, and before it a yield of its thread where it needs one, after the `built` records so far.
-fn place<'a>(
-    locks: &'a mut [u16; 32],
-    threads: &'a mut [u16; 16],
-    writers: &'a mut [u16; 256],
-    readers: &'a mut [u16; 4096],
-    work: &'a mut [u64],
-    current: &'a mut [u16; 16],
-    begun: &'a mut u16,
-    built: usize,
-    e: Event,
-) -> Step
-    requires { e.thread < 16 }
-    ensures { ◌≡◌ {A = Stepping} (step_as result.number result.mark (kept_of (cells_of locks.new threads.new writers.new readers.new) work.new current.new begun.new))
-        (stepping built (kept_of (cells_of locks.old threads.old writers.old readers.old) work.old current.old begun.old) e) }
-{
-    let room = make_room(
-        locks, threads, writers, readers, work, current, begun, built, e,
-    );
-    if room.number != 0 {
-        return room;
-    }
-    let mark = room.mark;
-    let number = put(locks, threads, writers, readers, work, current, begun, e);
-    Step { number, mark }
-}
-
-// Walks over the events of a possible history, and marks each that a yield is put before. The answer is where there is no room; a number 0 is none.
+// Walks over the events of a possible history, and marks each that a yield is put before. It ends where there is no room.
 // The work area's first 4,096 numbers are left with the rows.
-pub fn walk(input: &[u8], marks: &mut [u8], work: &mut [u64]) -> Refusal
-    requires { (length input.now ≤ 8192) × (length marks.old ≡ 1024) × (4096 ≤ length work.old)
+pub fn walk(input: &[u8], marks: &mut [bool; 1024], work: &mut [u64]) -> Result<(), Refusal>
+    requires { (length input.now ≤ 8192) × (4096 ≤ length work.old)
         × T (possible fresh (events input.now)) × T (all_of in_range (events input.now)) }
-    ensures { Walked (events input.now) marks.new work.old work.new result }
+    ensures { Walked (events input.now) marks.new work.old work.new (stopped_as result) }
 {
-    rows::begin(work, 512);
-    let mut locks = [0u16; 32];
-    let mut threads = [0u16; 16];
-    let mut writers = [0u16; 256];
-    let mut readers = [0u16; 4096];
-    let mut current = [0u16; 16];
-    let mut begun = 0u16;
-    let mut built = 0;
-    let count = input.len() / 8;
-    let mut i = 0;
-    while i < count {
-        let step = place(
-            &mut locks,
-            &mut threads,
-            &mut writers,
-            &mut readers,
-            work,
-            &mut current,
-            &mut begun,
-            built,
-            reading::event_at(input, i),
-        );
-        let number = step.number;
-        let mark = step.mark;
-        if number != 0 {
-            return Refusal { number, place: i };
+    let mut builder = Builder::new(work);
+    for (i, bytes) in input.chunks_exact(8).enumerate() {
+        match builder.place(record::event_of(bytes)) {
+            Ok(mark) => marks[i] = mark,
+            Err(fault) => return Err(Refusal { fault, place: i }),
         }
-        marks[i] = mark;
-        built += 1 + mark as usize;
-        i += 1;
     }
-    Refusal {
-        number: 0,
-        place: 0,
-    }
+    Ok(())
 }

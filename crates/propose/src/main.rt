@@ -2,39 +2,17 @@
 // the finished recording is also written to it; the file must be new.
 #![tactic(auto)]
 
-use proposal::Proposed;
+use proposal::{Added, Finished};
 use std::env::FillError;
 use std::fs::File;
 use std::io;
 use std::io::Write;
 use std::rt::{Env, Files};
 
-// Two numbers, and the line's end.
-fn print_two(rt: &impl Print, first: u64, second: u64) -> io::Result<()> {
-    println!(rt; "{first} {second}")
-}
-
-// The first line: a word and two numbers.
-fn print_first(rt: &impl Print, word: &str, first: usize, second: usize) -> io::Result<()> {
-    print!(rt; "{word} ")?;
-    print_two(rt, first as u64, second as u64)
-}
-
-// A yield's line: its thread, and the input record that it stands before.
-fn print_line(rt: &impl Print, thread: u16, record: u16) -> io::Result<()> {
-    print_two(rt, thread as u64, record as u64)
-}
-
-// The first `size` lines, of two numbers each.
-fn print_lines(rt: &impl Print, lines: &[u16; 2048], size: usize) -> io::Result<()> {
-    let mut place = 0;
-    while place < size {
-        if 1023 < place {
-            return Ok(());
-        }
-        let i = 2 * place;
-        print_line(rt, lines[i], lines[i + 1])?;
-        place += 1;
+// The first `size` lines: each yield's thread, and the input record that it stands before.
+fn print_lines(rt: &impl Print, lines: &[Added; 1024], size: usize) -> io::Result<()> {
+    for line in lines.iter().take(size) {
+        println!(rt; "{} {}", line.thread, line.before)?;
     }
     Ok(())
 }
@@ -86,16 +64,17 @@ fn main(rt: HostRuntime) -> io::Result<()> {
     let mut input = [0u8; 8200];
     let mut out = [0u8; 8192];
     let mut work = [0u64; 4096];
-    let mut lines = [0u16; 2048];
+    let mut lines = [Added {
+        thread: 0,
+        before: 0,
+    }; 1024];
     let n = reading::read_full(&mut rt.stdin(), &mut input)?;
     match proposal::report(&input[..n], &mut out, &mut work, &mut lines) {
-        Proposed::Finished { bytes, yields } => {
-            print_first(&rt, "proposed", yields, bytes / 8)?;
+        Ok(Finished { bytes, yields }) => {
+            println!(rt; "proposed {yields} {}", bytes / 8)?;
             print_lines(&rt, &lines, yields)?;
             save_named(&rt, &out, bytes)
         }
-        Proposed::Refused(refusal) => {
-            print_first(&rt, "refused", refusal.number as usize, refusal.place)
-        }
+        Err(refusal) => println!(rt; "refused {refusal}"),
     }
 }

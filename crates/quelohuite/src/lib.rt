@@ -4,7 +4,8 @@
 
 ghost use Rattle.std.specs.Prelude.{◌≡◌, [], ◌∷◌};
 ghost use Rattle.checker.specs.Verdict.{numbers};
-ghost use Rattle.record.specs.Answers.{Ending};
+ghost use Rattle.record.specs.Answers.{refusal_of, refused_as, bytes_or_refused, Ending};
+ghost use Rattle.record.specs.Answers as Answers;
 ghost use Rattle.checker.specs.Judged.{judged};
 ghost use Rattle.reasons.specs.Why as Why;
 ghost use Rattle.picture.specs.Drawn as Drawing;
@@ -12,11 +13,12 @@ ghost use Rattle.proposal.specs.Proposed as Proposing;
 ghost use Rattle.quelohuite.specs.Told.{told, told_why, in_five};
 
 use checker::Answer;
-use picture::Drawn;
-use proposal::Proposed;
+use proposal::Finished;
+use reasons::Cause;
+use record::Refusal;
 
-// An answer in numbers. Kind 0 is cooperable: records and transactions. Kind 1 is violation: record and cycle length.
-// Kind 2 is refused: number and record.
+// An answer in numbers, as C takes it. Kind 0 is cooperable: records and transactions. Kind 1 is violation: record and cycle length.
+// Kind 2 is refused: number and record. Of a drawing, kind 0 is written: the number of bytes, and 0; of a proposal, the number of bytes, and of yields added.
 #[repr(C)]
 #[derive(Clone, Copy)]
 pub struct Told {
@@ -25,28 +27,68 @@ pub struct Told {
     pub second: u64,
 }
 
-fn in_numbers(a: Answer) -> Told
-    ensures { told result ≡ numbers a }
-{
-    match a {
-        Answer::Cooperable {
-            records,
-            transactions,
-        } => Told {
-            kind: 0,
-            first: records as u64,
-            second: transactions as u64,
-        },
-        Answer::Violation { record, length } => Told {
-            kind: 1,
-            first: record as u64,
-            second: length as u64,
-        },
-        Answer::Refused(refusal) => Told {
+impl From<Refusal> for Told {
+    ghost from_gives = { λ refusal t. told t ≡ refused_as (refusal_of refusal) };
+
+    fn from(refusal: Refusal) -> Told {
+        Told {
             kind: 2,
-            first: refusal.number as u64,
+            first: u64::from(refusal.fault.number()),
             second: refusal.place as u64,
-        },
+        }
+    }
+}
+
+impl From<Answer> for Told {
+    ghost from_gives = { λ answer t. told t ≡ numbers answer };
+
+    fn from(answer: Answer) -> Told {
+        match answer {
+            Answer::Cooperable {
+                records,
+                transactions,
+            } => Told {
+                kind: 0,
+                first: records as u64,
+                second: transactions as u64,
+            },
+            Answer::Violation { record, length } => Told {
+                kind: 1,
+                first: record as u64,
+                second: length as u64,
+            },
+            Answer::Refused(refusal) => Told::from(refusal),
+        }
+    }
+}
+
+impl From<Result<usize, Refusal>> for Told {
+    ghost from_gives = { λ written t. told t ≡ bytes_or_refused written };
+
+    fn from(written: Result<usize, Refusal>) -> Told {
+        match written {
+            Ok(bytes) => Told {
+                kind: 0,
+                first: bytes as u64,
+                second: 0,
+            },
+            Err(refusal) => Told::from(refusal),
+        }
+    }
+}
+
+impl From<Result<Finished, Refusal>> for Told {
+    ghost from_gives = { λ proposed t. told t ≡ Proposing.numbers proposed };
+
+    fn from(proposed: Result<Finished, Refusal>) -> Told {
+        match proposed {
+            Ok(Finished { bytes, yields }) => Told {
+                kind: 0,
+                first: bytes as u64,
+                second: yields as u64,
+            },
+            Err(refusal) => Told::from(refusal),
+        }
     }
 }
 
@@ -55,8 +97,7 @@ pub fn quelohuite_judge(input: &[u8], out: &mut [u8], work: &mut [u64]) -> Told
     ensures { ◌≡◌ {A = Ending} (record { answer = told result; out = out.new; work = work.new })
         (judged input.now out.old work.old) }
 {
-    let answer = checker::judge(input, out, work);
-    in_numbers(answer)
+    Told::from(checker::judge(input, out, work))
 }
 
 // The same by the plain engine, to be held against it.
@@ -64,8 +105,7 @@ pub fn quelohuite_judge_plain(input: &[u8], out: &mut [u8], work: &mut [u64]) ->
     ensures { ◌≡◌ {A = Ending} (record { answer = told result; out = out.new; work = work.new })
         (judged input.now out.old work.old) }
 {
-    let answer = checker::judge_plain(input, out, work);
-    in_numbers(answer)
+    Told::from(checker::judge_plain(input, out, work))
 }
 
 // What is told of an edge of the cycle, in numbers. Kind 0 is because: first record, second record, reason (0 thread, 1 variable, 2 lock,
@@ -80,36 +120,42 @@ pub struct ToldWhy {
     pub number: u64,
 }
 
-// A kind that has no reason.
-fn without_reason(kind: u64, first: u64, second: u64) -> ToldWhy
-    ensures { told_why result ≡ kind ∷ first ∷ second ∷ 0 ∷ 0 ∷ [] }
-{
-    ToldWhy {
-        kind,
-        first,
-        second,
-        reason: 0,
-        number: 0,
+impl ToldWhy {
+    // A kind that has no reason.
+    fn without_reason(kind: u64, first: u64, second: u64) -> Self
+        ensures { told_why result ≡ kind ∷ first ∷ second ∷ 0 ∷ 0 ∷ [] }
+    {
+        Self {
+            kind,
+            first,
+            second,
+            reason: 0,
+            number: 0,
+        }
     }
 }
 
-fn in_five(told: reasons::Told) -> ToldWhy
-    ensures { told_why result ≡ in_five (Why.numbers told) }
-{
-    match told {
-        reasons::Told::Because(cause) => {
-            let reason = cause.reason;
-            ToldWhy {
+impl From<Result<Option<Cause>, Refusal>> for ToldWhy {
+    ghost from_gives = { λ why t. told_why t ≡ in_five (Why.numbers (Answers.told why)) };
+
+    fn from(why: Result<Option<Cause>, Refusal>) -> ToldWhy {
+        match why {
+            Ok(Some(cause)) => ToldWhy {
                 kind: 0,
                 first: cause.first as u64,
                 second: cause.second as u64,
-                reason: reasons::name_of(reason) as u64,
-                number: reasons::number_of(reason) as u64,
+                reason: u64::from(cause.reason.name()),
+                number: u64::from(cause.reason.number()),
+            },
+            Ok(None) => ToldWhy::without_reason(1, 0, 0),
+            Err(refusal) => {
+                let Told {
+                    kind,
+                    first,
+                    second,
+                } = Told::from(refusal);
+                ToldWhy::without_reason(kind, first, second)
             }
-        }
-        reasons::Told::NoSuchEdge => without_reason(1, 0, 0),
-        reasons::Told::Refused(refusal) => {
-            without_reason(2, refusal.number as u64, refusal.place as u64)
         }
     }
 }
@@ -119,26 +165,7 @@ pub fn quelohuite_why(input: &[u8], out: &mut [u8], work: &mut [u64], place: usi
     ensures { let told = Why.asked input.now out.old work.old place in
         (told_why result ≡ in_five told.answer) × (out.new ≡ told.out) × (work.new ≡ told.work) }
 {
-    let told = reasons::why(input, out, work, place);
-    in_five(told)
-}
-
-// What drawing ends in, in numbers. Kind 0 is written: the number of bytes, and 0. Kind 2 is refused: number and record.
-fn drawn_in_numbers(d: Drawn) -> Told
-    ensures { told result ≡ Drawing.numbers d }
-{
-    match d {
-        Drawn::Written { bytes } => Told {
-            kind: 0,
-            first: bytes as u64,
-            second: 0,
-        },
-        Drawn::Refused(refusal) => Told {
-            kind: 2,
-            first: refusal.number as u64,
-            second: refusal.place as u64,
-        },
-    }
+    ToldWhy::from(reasons::why(input, out, work, place))
 }
 
 // Draws the graph of a recording: the answer in numbers, and the output and the work area at the end.
@@ -146,26 +173,7 @@ pub fn quelohuite_dot(input: &[u8], out: &mut [u8], work: &mut [u64]) -> Told
     ensures { ◌≡◌ {A = Ending} (record { answer = told result; out = out.new; work = work.new })
         (Drawing.drawn input.now out.old work.old) }
 {
-    let drawn = picture::draw(input, out, work);
-    drawn_in_numbers(drawn)
-}
-
-// What proposing ends in, in numbers. Kind 0 is proposed: the number of bytes, and of yields added. Kind 2 is refused: number and record.
-fn proposed_in_numbers(p: Proposed) -> Told
-    ensures { told result ≡ Proposing.numbers p }
-{
-    match p {
-        Proposed::Finished { bytes, yields } => Told {
-            kind: 0,
-            first: bytes as u64,
-            second: yields as u64,
-        },
-        Proposed::Refused(refusal) => Told {
-            kind: 2,
-            first: refusal.number as u64,
-            second: refusal.place as u64,
-        },
-    }
+    Told::from(picture::draw(input, out, work))
 }
 
 // Proposes yields for a recording: the answer in numbers, and the output and the work area at the end.
@@ -173,6 +181,5 @@ pub fn quelohuite_propose(input: &[u8], out: &mut [u8], work: &mut [u64]) -> Tol
     ensures { ◌≡◌ {A = Ending} (record { answer = told result; out = out.new; work = work.new })
         (Proposing.proposed input.now out.old work.old) }
 {
-    let proposed = proposal::propose(input, out, work);
-    proposed_in_numbers(proposed)
+    Told::from(proposal::propose(input, out, work))
 }

@@ -1,4 +1,4 @@
-// For C and Rust: exports the functions of quelohuite, each with its whole promise.
+// For C and Rust: exports the functions of quelohuite, each with its whole promise. A crate that exports can't be one that others stand on.
 #![tactic(auto)]
 
 ghost use Rattle.std.specs.Prelude.{◌≡◌};

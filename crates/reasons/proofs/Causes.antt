@@ -12,7 +12,8 @@ use Rattle.trace.specs.Paths.{Edge, has_edge}
 use Rattle.lists.proofs.Tests.{and_left, and_right, and_both}
 use Rattle.lists.proofs.Lists.{Earliest, earliest, before_at}
 use Rattle.graph.specs.Conflict.{conflict}
-use Rattle.graph.specs.Transactions.{none_yet, Labelled, labelled}
+use Rattle.graph.specs.declared.Labelled.{Labelled}
+use Rattle.graph.specs.Transactions.{none_yet, labelled}
 use Rattle.graph.specs.Violation.{edges_up_to, cyclic_up_to, shortest, transaction_at, cycle_of}
 use Rattle.graph.specs.Rule.{Follows, Reported}
 use Rattle.graph.proofs.Numbers.{labelled-take}

@@ -1,14 +1,14 @@
 -- The reason that is given for two operations: which it is, that it holds of them, and that it is the first in 02's order.
 use Prim.Native.Nat.{ℕ, ◌≤◌}
 use native.Mathlib.Omega.{arith}
-use mathlib.Core.Path.{◌≡◌, refl, sym, ap, ◌∙◌, subst}
+use mathlib.Core.Path.{◌≡◌, refl, sym, ◌∙◌, subst}
 use mathlib.Core.Logic.{inl, inr}
 use mathlib.Core.Bool.{Bool, true, false, ◌&&◌, ◌||◌}
 use mathlib.Core.List.{[], ◌∷◌}
-use lib.Dec.{T, leb, eqb, eqb→eq, eqb_refl}
+use lib.Dec.{T, eqb, eqb→eq, eqb_refl}
 use borrow.Author.Tests.{eq-eqb, ne_eqb}
 use Rattle.record.specs.declared.Event.{Event}
-use Rattle.record.specs.Record.{kind, target}
+use Rattle.record.specs.Record.{target}
 use Rattle.lists.specs.Lists.{first_of}
 use Rattle.lists.proofs.Tests.{by, T_of, and_right}
 use Rattle.graph.specs.Conflict.{accesses, writes, locks, forks, joins, same_thread, same_variable, same_lock, governs, same_child, conflict}
@@ -37,9 +37,13 @@ module _ (a b : Event) where
   unfolding chosen first_of
   is-thread p = as-chosen ∙ rw p
 
-  pub by-thread : a.thread ≡ b.thread → Thread a.thread ≡ reason_of a b
+  pub threads-same : a.thread ≡ b.thread → same_thread a b ≡ true
   unfolding same_thread
-  by-thread e = sym (is-thread (eq-eqb a.thread b.thread e))
+  threads-same e = eq-eqb a.thread b.thread e
+
+  pub threads-differ : (a.thread ≡ b.thread → ⊥) → same_thread a b ≡ false
+  unfolding same_thread
+  threads-differ e = ne_eqb a.thread b.thread e
 
   module _ (p : same_thread a b ≡ false) where
     pub is-variable : same_variable a b ≡ true → reason_of a b ≡ Variable (target a.op)
@@ -63,57 +67,6 @@ module _ (a b : Event) where
         pub is-child : governs a b ≡ false → governs b a ≡ false → reason_of a b ≡ ForkJoin (target a.op)
         unfolding chosen first_of
         is-child s t = as-chosen ∙ by (same_child a b) (λ u. rw (p, q, r, s, t, u)) (λ u. rw (p, q, r, s, t, u))
-
-  -- ---- by the tests of the code: of kinds k and l and targets x and y, of different threads, what each test found
-
-  module _ (k l x y : ℕ) (k-is : k ≡ kind a.op) (l-is : l ≡ kind b.op) (x-is : x ≡ target a.op) (y-is : y ≡ target b.op)
-      (different : a.thread ≡ b.thread → ⊥) where
-    abbrev pub Variables : Bool → Type 0
-    Variables v = v ≡ (leb k 2 && leb l 2 && (eqb k 2 || eqb l 2) && eqb x y)
-
-    abbrev pub Locks : Bool → Type 0
-    Locks m = m ≡ ((leb 3 k && leb k 7) && (leb 3 l && leb l 7) && eqb x y)
-
-    abbrev pub Governs : ℕ → ℕ → ℕ → Bool → Type 0
-    Governs j z t g = g ≡ ((eqb j 8 || eqb j 9) && eqb z t)
-
-    threads-differ : same_thread a b ≡ false
-    unfolding same_thread
-    threads-differ = ne_eqb a.thread b.thread different
-
-    variable-is : {v : Bool} → Variables v → (w : Bool) → v ≡ w → same_variable a b ≡ w
-    unfolding same_variable accesses writes
-    variable-is h w q = sym (h ∙ rw (k-is, l-is, x-is, y-is)) ∙ q
-
-    lock-is : {v : Bool} → Locks v → (w : Bool) → v ≡ w → same_lock a b ≡ w
-    unfolding same_lock locks
-    lock-is h w q = sym (h ∙ rw (k-is, l-is, x-is, y-is)) ∙ q
-
-    first-is : {v : Bool} → Governs k x b.thread v → (w : Bool) → v ≡ w → governs a b ≡ w
-    unfolding governs forks joins
-    first-is h w q = sym (h ∙ rw (k-is, x-is)) ∙ q
-
-    second_is : {v : Bool} → Governs l y a.thread v → (w : Bool) → v ≡ w → governs b a ≡ w
-    unfolding governs forks joins
-    second_is h w q = sym (h ∙ rw (l-is, y-is)) ∙ q
-
-    pub by-variable : {v : Bool} → Variables v → v ≡ true → Variable x ≡ reason_of a b
-    by-variable h p = ap Variable x-is ∙ sym (is-variable threads-differ (variable-is h true p))
-
-    module _ {v : Bool} (h : Variables v) (p : v ≡ false) where
-      pub by-lock : {m : Bool} → Locks m → m ≡ true → Lock x ≡ reason_of a b
-      by-lock j q = ap Lock x-is ∙ sym (is-lock threads-differ (variable-is h false p) (lock-is j true q))
-
-      module _ {m : Bool} (j : Locks m) (q : m ≡ false) where
-        pub by_first : {g : Bool} → Governs k x b.thread g → g ≡ true → ForkJoin x ≡ reason_of a b
-        by_first f r = ap ForkJoin x-is ∙ sym (is-first threads-differ (variable-is h false p) (lock-is j false q) (first-is f true r))
-
-        module _ {g : Bool} (f : Governs k x b.thread g) (r : g ≡ false) where
-          pub by-second : {d : Bool} → Governs l y a.thread d → d ≡ true → ForkJoin y ≡ reason_of a b
-          by-second e s = ap ForkJoin y-is ∙ sym (is-second threads-differ (variable-is h false p) (lock-is j false q) (first-is f false r) (second_is e true s))
-
-          pub by-child : {d : Bool} → Governs l y a.thread d → d ≡ false → ForkJoin x ≡ reason_of a b
-          by-child e s = ap ForkJoin x-is ∙ sym (is-child threads-differ (variable-is h false p) (lock-is j false q) (first-is f false r) (second_is e false s))
 
   -- ---- that it holds and is the first
 

@@ -8,10 +8,13 @@ use mathlib.Core.List.{List, [], ◌∷◌}
 use lib.ListN.{length, get_or}
 use lib.Dec.{ltb}
 use borrow.Author.Tests.{ltb-true, ltb-false}
+use Rattle.std.specs.Prelude.{Option, None, Some, Result, Ok, Err}
 use Rattle.record.specs.declared.Event.{Event}
-use Rattle.record.specs.declared.Refusal.{Refusal}
+use Rattle.record.specs.Faults.{Refusal}
 use Rattle.record.specs.Answers as Answers
 use Rattle.record.specs.Answers.{refused_as}
+use Rattle.record.specs.declared.Refusal.{Refusal as Given}
+use Rattle.record.proofs.Numbers.{refusals-same}
 use Rattle.graph.specs.Violation.{shortest, cycle_of}
 use Rattle.lists.proofs.Tests.{by}
 use Rattle.looking.specs.Refusals.{events}
@@ -21,35 +24,37 @@ use Rattle.checker.proofs.Demand3.{is-cooperable, is-violation, numbers-are, ref
 use Rattle.reasons.specs.declared.Reason.{Reason}
 use Rattle.reasons.specs.declared.Reason.TheVariants.{Thread, Variable, Lock, ForkJoin}
 use Rattle.reasons.specs.declared.Cause.{Cause}
-use Rattle.reasons.specs.declared.Told.{Told}
-use Rattle.reasons.specs.declared.Told.TheVariants.{Because, NoSuchEdge, Refused}
 use Rattle.reasons.specs.Why.{name_of, number_of, cause_at, told_of, told, Numbers, numbers}
 use Rattle.reasons.specs.Meaning.{answer, cycle, Explained, Right}
 use Rattle.reasons.proofs.Causes.{explained}
 
 -- ---- what is told, case by case
 
-told-refused : (input out work : List ℕ) (p n : ℕ) → (refusal input out work).number ≡ suc n → told input out work p ≡ Refused (refusal input out work)
+told-refused : (input out work : List ℕ) (p n : ℕ) → (refusal input out work).number ≡ suc n → told input out work p ≡ Err (refusal input out work)
 unfolding told
-told-refused input out work p n e = rw (e, told) (ap (λ m. Refused (record { number = m; place = (refusal input out work).place })) e)
+told-refused input out work p n e = rw (e, told) (ap (λ m. Err (record { number = m; place = (refusal input out work).place })) e)
 
-pub told-fine : (input out work : List ℕ) (p : ℕ) → (refusal input out work).number ≡ 0 → told input out work p ≡ told_of (events input) p
+pub told-fine : (input out work : List ℕ) (p : ℕ) → (refusal input out work).number ≡ 0 → told input out work p ≡ Ok (told_of (events input) p)
 unfolding told
 told-fine input out work p e = rw (e, told)
 
-told-cooperable : (es : List Event) (p : ℕ) → shortest es ≡ 0 → told_of es p ≡ NoSuchEdge
+told-cooperable : (es : List Event) (p : ℕ) → shortest es ≡ 0 → told_of es p ≡ None
 unfolding told_of
 told-cooperable es p e = rw (e, told_of)
 
-pub told-edge : (es : List Event) (p k : ℕ) → shortest es ≡ suc k → ltb p (length (cycle_of es (suc k))) ≡ true → told_of es p ≡ Because (cause_at es k p)
+pub told-edge : (es : List Event) (p k : ℕ) → shortest es ≡ suc k → ltb p (length (cycle_of es (suc k))) ≡ true → told_of es p ≡ Some (cause_at es k p)
 unfolding told_of
 told-edge es p k e l = rw (e, l, told_of)
 
-told-past : (es : List Event) (p k : ℕ) → shortest es ≡ suc k → ltb p (length (cycle_of es (suc k))) ≡ false → told_of es p ≡ NoSuchEdge
+told-past : (es : List Event) (p k : ℕ) → shortest es ≡ suc k → ltb p (length (cycle_of es (suc k))) ≡ false → told_of es p ≡ None
 unfolding told_of
 told-past es p k e l = rw (e, l, told_of)
 
 -- ---- the whole
+
+-- what is told, in this paper's words
+abbrev Told : Type 0
+Told = Result (Option Cause) Refusal
 
 abbrev kind_of : Told → ℕ
 kind_of t = (numbers t).kind
@@ -62,7 +67,7 @@ abbrev answered_as : Told → Answers.Numbers
 answered_as t = record { kind = (numbers t).kind; first = get_or (numbers t).values 0 0; second = get_or (numbers t).values 1 0 }
 
 abbrev told_as : Answers.Numbers → Told
-told_as a = Refused (record { number = a.first; place = a.second })
+told_as a = Err (record { number = a.first; place = a.second })
 
 module _ (input out work : List ℕ) (p : ℕ) where
   abbrev es : List Event
@@ -83,7 +88,7 @@ module _ (input out work : List ℕ) (p : ℕ) where
     when-cooperable : shortest es ≡ 0 → Right input out work p
     unfolding cooperable
     when-cooperable e =
-        let t = told-fine input out work p fine ∙ told-cooperable es p e in
+        let t = told-fine input out work p fine ∙ ap Ok (told-cooperable es p e) in
         let w = ap (λ j. j.answer.kind) (is-cooperable input out work fine e) in
         record {
           refused = λ r. ((λ q. absurd (omega (arith, ap kind_of (sym t ∙ q)))), (λ q. absurd (omega (arith, w, ap kind_of_answer q))));
@@ -103,7 +108,7 @@ module _ (input out work : List ℕ) (p : ℕ) where
 
       when-edge : ltb p (length (cycle_of es (suc k))) ≡ true → Right input out work p
       when-edge l =
-          let t = told-fine input out work p fine ∙ told-edge es p k e l in
+          let t = told-fine input out work p fine ∙ ap Ok (told-edge es p k e l) in
           let below : p < length (cycle_of es (suc k)) = ltb-true p (length (cycle_of es (suc k))) l in
           record {
             refused = λ r. ((λ q. absurd (omega (arith, ap kind_of (sym t ∙ q)))), (λ q. absurd (omega (arith, ap kind_of_answer answer-is, ap kind_of_answer q))));
@@ -116,7 +121,7 @@ module _ (input out work : List ℕ) (p : ℕ) where
 
       when-past : ltb p (length (cycle_of es (suc k))) ≡ false → Right input out work p
       when-past l =
-          let t = told-fine input out work p fine ∙ told-past es p k e l in
+          let t = told-fine input out work p fine ∙ ap Ok (told-past es p k e l) in
           let past : length (cycle_of es (suc k)) ≤ p = ltb-false p (length (cycle_of es (suc k))) l in
           record {
             refused = λ r. ((λ q. absurd (omega (arith, ap kind_of (sym t ∙ q)))), (λ q. absurd (omega (arith, ap kind_of_answer answer-is, ap kind_of_answer q))));
@@ -147,13 +152,22 @@ reason-by (ForkJoin u) = refl
 abbrev told_by : Numbers → Told
 told_by n =
     let value : ℕ → ℕ = λ i. get_or n.values i 0 in
-    get_or (Because (record { first = value 0; second = value 1; reason = reason_by (value 2) (value 3) }) ∷ NoSuchEdge ∷ Refused (record { number = value 0; place = value 1 }) ∷ [])
-    n.kind NoSuchEdge
+    get_or (Ok (Some (record { first = value 0; second = value 1; reason = reason_by (value 2) (value 3) })) ∷ Ok None ∷ Err (record { number = value 0; place = value 1 }) ∷ [])
+    n.kind (Ok None)
 
 told-by : (t : Told) → told_by (numbers t) ≡ t
-told-by (Because c) = ap (λ r. Because (record { first = c.first; second = c.second; reason = r })) (reason-by c.reason)
-told-by NoSuchEdge = refl
-told-by (Refused r) = refl
+told-by (Ok (Some c)) = ap (λ r. Ok (Some (record { first = c.first; second = c.second; reason = r }))) (reason-by c.reason)
+told-by (Ok None) = refl
+told-by (Err r) = refl
 
-pub told_same : (t u : Told) → numbers t ≡ numbers u → t ≡ u
-told_same t u e = sym (told-by t) ∙ ap told_by e ∙ told-by u
+-- what code gives, with its refusal in numbers
+given-same : (t u : Result (Option Cause) Given) → Answers.told t ≡ Answers.told u → t ≡ u
+given-same (Ok x) (Ok y) e = cc
+given-same (Ok x) (Err s) e = cc
+given-same (Err r) (Ok y) e = cc
+given-same (Err r) (Err s) e =
+    let same : Answers.refusal_of r ≡ Answers.refusal_of s = cc in
+    ap Err (refusals-same r s (ap (λ x. x.number) same) (ap (λ x. x.place) same))
+
+pub told_same : (t u : Result (Option Cause) Given) → numbers (Answers.told t) ≡ numbers (Answers.told u) → t ≡ u
+told_same t u e = given-same t u (sym (told-by (Answers.told t)) ∙ ap told_by e ∙ told-by (Answers.told u))

@@ -1,6 +1,6 @@
 -- What is told of edges, as one table, proved of the definitions by computing them: P2, P3, P6 and P9 of document 01, and cases where several
 -- pairs or several reasons make one edge.
-use Rattle.std.specs.Prelude.{ℕ, ◌≡◌, refl, List, [], ◌∷◌, map, length, replicate}
+use Rattle.std.specs.Prelude.{ℕ, ◌≡◌, refl, List, [], ◌∷◌, map, length, replicate, Ok}
 use Rattle.record.specs.declared.Event.{Event}
 use Rattle.record.specs.declared.Op.{Op}
 use Rattle.record.specs.declared.Op.TheVariants.{Read, Write, Acquire, Release, Fork, Join, Yield}
@@ -69,7 +69,7 @@ table =
 
 -- the definitions give what a row says
 abbrev Right : Example → Type 0
-Right x = map (λ p. numbers (told_of x.events p)) (below (length x.told)) ≡ x.told
+Right x = map (λ p. numbers (Ok (told_of x.events p))) (below (length x.told)) ≡ x.told
 
 abbrev All : (Example → Type 0) → List Example → Type 0
 All P [] = Unit {0}

@@ -1,7 +1,7 @@
 -- What is told of an edge, in document 02's words: what `proofs/Right` proves of every recording and every place.
-use Rattle.std.specs.Prelude.{ℕ, suc, ◌<◌, ◌≤◌, ◌≡◌, ◌↔◌, ◌⊎◌, List, get_or, T}
+use Rattle.std.specs.Prelude.{ℕ, suc, ◌<◌, ◌≤◌, ◌≡◌, ◌↔◌, ◌⊎◌, List, get_or, T, None, Some, Ok, Err}
 use Rattle.record.specs.declared.Event.{Event}
-use Rattle.record.specs.declared.Refusal.{Refusal}
+use Rattle.record.specs.Faults.{Refusal}
 use Rattle.record.specs.Record.{target}
 use Rattle.record.specs.Answers as Answers
 use Rattle.record.specs.Answers.{refused_as}
@@ -14,7 +14,6 @@ use Rattle.checker.specs.Demand3.{numbers_in}
 use Rattle.reasons.specs.declared.Reason.{Reason}
 use Rattle.reasons.specs.declared.Reason.TheVariants.{Thread, Variable, Lock, ForkJoin}
 use Rattle.reasons.specs.declared.Cause.{Cause}
-use Rattle.reasons.specs.declared.Told.TheVariants.{Because, NoSuchEdge, Refused}
 use Rattle.reasons.specs.Why.{name_of, number_of, no_event, origin_of, goal_of, told}
 
 -- A reason holds of two operations, with its number
@@ -61,8 +60,8 @@ module _ (input out work : List ℕ) (p : ℕ) where
 
   pub record Right : Type 0 where
     -- refused, exactly if the checker refuses, with its number and record
-    pub refused : (r : Refusal) → (told input out work p ≡ Refused r) ↔ (answer ≡ refused_as r)
+    pub refused : (r : Refusal) → (told input out work p ≡ Err r) ↔ (answer ≡ refused_as r)
     -- no such edge, exactly if there is no violation or the place isn't below the cycle's length
-    pub no-such-edge : (told input out work p ≡ NoSuchEdge) ↔ ((answer.kind ≡ 0) ⊎ ((answer.kind ≡ 1) × (answer.second ≤ p)))
+    pub no-such-edge : (told input out work p ≡ Ok None) ↔ ((answer.kind ≡ 0) ⊎ ((answer.kind ≡ 1) × (answer.second ≤ p)))
     -- else the pair of records that makes the edge, and the reason
-    pub because : answer.kind ≡ 1 → p < answer.second → (c : Cause) × (told input out work p ≡ Because c) × Explained (events input) answer.first cycle p c
+    pub because : answer.kind ≡ 1 → p < answer.second → (c : Cause) × (told input out work p ≡ Ok (Some c)) × Explained (events input) answer.first cycle p c

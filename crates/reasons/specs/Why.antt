@@ -1,21 +1,20 @@
 -- Which two records make an edge of the reported cycle, and why (document 02, L2).
-use Rattle.std.specs.Prelude.{ℕ, zero, suc, ◌-◌, Bool, true, false, ◌&&◌, List, [], ◌∷◌, get_or, length, take, ltb, eqb}
+use Rattle.std.specs.Prelude.{ℕ, zero, suc, ◌-◌, Bool, true, false, ◌&&◌, List, [], ◌∷◌, get_or, length, take, ltb, eqb, Option, None, Some, Result, Ok, Err}
 use Rattle.record.specs.declared.Event.{Event}
 use Rattle.record.specs.declared.Op.TheVariants.{Yield}
-use Rattle.record.specs.declared.Refusal.{Refusal}
+use Rattle.record.specs.Faults.{Refusal}
 use Rattle.record.specs.Record.{target}
 use Rattle.record.specs.Answers.{refused_as}
 use Rattle.lists.specs.Lists.{some_of, first_of, from, below}
 use Rattle.graph.specs.Conflict.{same_thread, same_variable, same_lock, governs, same_child, conflict}
-use Rattle.graph.specs.Transactions.{Labelled, labelled}
+use Rattle.graph.specs.declared.Labelled.{Labelled}
+use Rattle.graph.specs.Transactions.{labelled}
 use Rattle.graph.specs.Violation.{shortest, cycle_of}
 use Rattle.looking.specs.Refusals.{events}
 use Rattle.checker.specs.Judged.{refusal, judged}
 use Rattle.reasons.specs.declared.Reason.{Reason}
 use Rattle.reasons.specs.declared.Reason.TheVariants.{Thread, Variable, Lock, ForkJoin}
 use Rattle.reasons.specs.declared.Cause.{Cause}
-use Rattle.reasons.specs.declared.Told.{Told}
-use Rattle.reasons.specs.declared.Told.TheVariants.{Because, NoSuchEdge, Refused}
 
 -- A reason's number, which is its place in 02's order: 0 same thread, 1 variable, 2 lock, 3 fork/join
 abbrev pub name_of : Reason → ℕ
@@ -98,18 +97,18 @@ unfoldable pub cause_at : List Event → ℕ → ℕ → Cause
 cause_at es k p = let cycle : List ℕ = cycle_of es (suc k) in cause_of (labelled (take (suc k) es)) (origin_of cycle p) (goal_of cycle p)
 
 -- What is told of a possible history: no such edge, if there is no violation or the place isn't below the cycle's length
-unfoldable pub told_of : List Event → ℕ → Told
+unfoldable pub told_of : List Event → ℕ → Option Cause
 told_of es p =
     elim (shortest es) [
-      | zero ↦ NoSuchEdge
-      | suc k ↦ elim (ltb p (length (cycle_of es (suc k)))) [ true ↦ Because (cause_at es k p) | false ↦ NoSuchEdge ]
+      | zero ↦ None
+      | suc k ↦ elim (ltb p (length (cycle_of es (suc k)))) [ true ↦ Some (cause_at es k p) | false ↦ None ]
     ]
 
 -- of any recording: a refusal, as the checker's, goes first
-unfoldable pub told : List ℕ → List ℕ → List ℕ → ℕ → Told
+unfoldable pub told : List ℕ → List ℕ → List ℕ → ℕ → Result (Option Cause) Refusal
 told input out work p =
     let no : Refusal = refusal input out work in
-    elim no.number [ zero ↦ told_of (events input) p | suc n ↦ Refused no ]
+    elim no.number [ zero ↦ Ok (told_of (events input) p) | suc n ↦ Err no ]
 
 -- A cause by numbers
 abbrev pub values_of : Cause → List ℕ
@@ -121,10 +120,10 @@ pub record Numbers : Type 0 where
   pub kind : ℕ
   pub values : List ℕ
 
-abbrev pub numbers : Told → Numbers
-numbers (Because c) = record { kind = 0; values = values_of c }
-numbers NoSuchEdge = record { kind = 1; values = [] }
-numbers (Refused r) = record { kind = (refused_as r).kind; values = (refused_as r).first ∷ (refused_as r).second ∷ [] }
+abbrev pub numbers : Result (Option Cause) Refusal → Numbers
+numbers (Ok (Some c)) = record { kind = 0; values = values_of c }
+numbers (Ok None) = record { kind = 1; values = [] }
+numbers (Err r) = record { kind = (refused_as r).kind; values = (refused_as r).first ∷ (refused_as r).second ∷ [] }
 
 -- The answer, the output and the work area at the end: the last two as after a plain judgement
 pub record Asked : Type 0 where

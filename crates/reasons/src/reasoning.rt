@@ -1,40 +1,67 @@
 // On what two operations conflict: the first reason in the order thread, variable, lock, fork/join.
-ghost use Rattle.std.specs.Prelude.{◌≡◌, ◌&&◌, ◌||◌, leb, eqb};
+ghost use Rattle.std.specs.Prelude.{◌≡◌};
+ghost use Rattle.graph.specs.Conflict as Conflict;
 ghost use Rattle.reasons.specs.Why.{reason_of};
 
 use crate::Reason;
-use record::Event;
+use record::{Event, Op};
 
-// Whether operations of kinds `k` and `l`, at `x` and `y`, touch the same variable and at least one writes.
-fn same_variable(k: u8, l: u8, x: u8, y: u8) -> bool
-    ensures { result ≡ (leb k 2 && leb l 2 && (eqb k 2 || eqb l 2) && eqb x y) }
+// Whether an operation reads or writes a variable.
+#[tactic(auto, unfolding(graph::specs::Conflict::accesses))]
+fn accesses(op: Op) -> bool
+    ensures { result ≡ Conflict.accesses op }
 {
-    match k {
-        0..=1 => l == 2 && x == y,
-        2 => l <= 2 && x == y,
-        _ => false,
-    }
+    matches!(op, Op::Read { .. } | Op::Write { .. })
+}
+
+#[tactic(auto, unfolding(graph::specs::Conflict::writes))]
+fn writes(op: Op) -> bool
+    ensures { result ≡ Conflict.writes op }
+{
+    matches!(op, Op::Write { .. })
+}
+
+// Whether it touches a lock.
+#[tactic(auto, unfolding(graph::specs::Conflict::locks))]
+fn locks(op: Op) -> bool
+    ensures { result ≡ Conflict.locks op }
+{
+    matches!(
+        op,
+        Op::Acquire { .. }
+            | Op::Release { .. }
+            | Op::Prewait { .. }
+            | Op::Postwait { .. }
+            | Op::Notify { .. }
+    )
+}
+
+// Whether two operations touch the same variable and at least one writes.
+#[tactic(auto, unfolding(graph::specs::Conflict::same_variable))]
+fn same_variable(a: Event, b: Event) -> bool
+    ensures { result ≡ Conflict.same_variable a b }
+{
+    accesses(a.op)
+        && accesses(b.op)
+        && (writes(a.op) || writes(b.op))
+        && a.op.target() == b.op.target()
 }
 
 // Whether they touch the same lock.
-fn same_lock(k: u8, l: u8, x: u8, y: u8) -> bool
-    ensures { result ≡ ((leb 3 k && leb k 7) && (leb 3 l && leb l 7) && eqb x y) }
+#[tactic(auto, unfolding(graph::specs::Conflict::same_lock))]
+fn same_lock(a: Event, b: Event) -> bool
+    ensures { result ≡ Conflict.same_lock a b }
 {
-    match k {
-        3..=7 => match l {
-            3..=7 => x == y,
-            _ => false,
-        },
-        _ => false,
-    }
+    locks(a.op) && locks(b.op) && a.op.target() == b.op.target()
 }
 
-// Whether an operation of kind `k` at `x` forks or joins thread `t`.
-fn governs(k: u8, x: u8, t: u8) -> bool
-    ensures { result ≡ ((eqb k 8 || eqb k 9) && eqb x t) }
+// Whether the first forks or joins the thread of the other.
+#[tactic(auto, unfolding(graph::specs::Conflict::governs, graph::specs::Conflict::forks, graph::specs::Conflict::joins))]
+fn governs(a: Event, b: Event) -> bool
+    ensures { result ≡ Conflict.governs a b }
 {
-    match k {
-        8 | 9 => x == t,
+    match a.op {
+        Op::Fork { child } | Op::Join { child } => child == b.thread,
         _ => false,
     }
 }
@@ -43,28 +70,15 @@ fn governs(k: u8, x: u8, t: u8) -> bool
 pub fn reason_of(a: Event, b: Event) -> Reason
     ensures { result ≡ reason_of a b }
 {
-    let t = a.thread;
-    let u = b.thread;
-    if t == u {
-        return Reason::Thread(t);
+    if a.thread == b.thread {
+        Reason::Thread(a.thread)
+    } else if same_variable(a, b) {
+        Reason::Variable(a.op.target())
+    } else if same_lock(a, b) {
+        Reason::Lock(a.op.target())
+    } else if !governs(a, b) && governs(b, a) {
+        Reason::ForkJoin(b.op.target())
+    } else {
+        Reason::ForkJoin(a.op.target())
     }
-    let p = a.op;
-    let q = b.op;
-    let k = record::kind_of(p);
-    let l = record::kind_of(q);
-    let x = record::target_of(p);
-    let y = record::target_of(q);
-    if same_variable(k, l, x, y) {
-        return Reason::Variable(x);
-    }
-    if same_lock(k, l, x, y) {
-        return Reason::Lock(x);
-    }
-    if governs(k, x, u) {
-        return Reason::ForkJoin(x);
-    }
-    if governs(l, y, t) {
-        return Reason::ForkJoin(y);
-    }
-    Reason::ForkJoin(x)
 }

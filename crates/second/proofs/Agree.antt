@@ -11,11 +11,11 @@ use Rattle.trace.specs.Paths.{Edge, has_edge, PathAlong, Cycle, reaches, cyclic}
 use Rattle.lists.proofs.Tests.{and_left, and_right, and_both, same_test}
 use Rattle.lists.proofs.Lists.{some-has, some_at, Holds, among-map, before-map}
 use Rattle.trace.proofs.Reach.{Over, sound, complete, path-joined, cycle-means, cycle-made}
-use Rattle.graph.specs.Transactions.{Labelled}
+use Rattle.graph.specs.declared.Labelled.{Labelled}
 use Rattle.graph.specs.Edges.{edges}
 use Rattle.graph.proofs.Ends.{has-pair}
 use Rattle.ancestors.specs.Search.{kept_from}
-use Rattle.second.specs.Cells.{Cells}
+use Rattle.second.specs.declared.Cells.{Cells}
 use Rattle.second.specs.Edges.{into, sources_of, stored_of, second_from, second_edges}
 use Rattle.second.proofs.Orderly.{Orderly}
 use Rattle.second.proofs.Meet.{eq-T}

@@ -14,12 +14,13 @@ use Rattle.lists.proofs.Tests.{by, by-same, T_of, or_cases, or_left, or_right, a
 use Rattle.lists.proofs.Lists.{Among, Before, among-cons, keep-among, keep-has, some-has, some_at, Holds, among-map, among-unmap, some-append}
 use Rattle.trace.proofs.Reach.{path-joined}
 use Rattle.graph.specs.Conflict.{accesses, writes, locks, forks, joins, conflict}
-use Rattle.graph.specs.Transactions.{Labelled}
+use Rattle.graph.specs.declared.Labelled.{Labelled}
 use Rattle.graph.specs.Edges.{makes, edges}
 use Rattle.graph.proofs.Ends.{pair-has, has-pair}
 use Rattle.graph.proofs.Steps.{among_none, makes-of}
 use Rattle.ancestors.specs.Others.{is_other, others}
-use Rattle.second.specs.Cells.{Cells, Key, cell, idle, asks, sources}
+use Rattle.second.specs.declared.Cells.{Cells}
+use Rattle.second.specs.Cells.{Key, cell, idle, asks, sources}
 use Rattle.second.specs.Edges.{into, sources_of, stored_of, second_from, second_edges}
 use Rattle.second.proofs.Keys.{same_key, has_key, asks_at, leaves_at, asks-is, inside, Sized, sized-idle, sized-stored, cell-stored, cell-idle}
 use Rattle.second.proofs.Orderly.{ranged, Fits, of-thread, of-target, of-variable, of-lock, of-child}

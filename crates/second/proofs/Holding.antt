@@ -13,7 +13,7 @@ use lib.Dec.{T}
 use lib.ListN.{length}
 use Rattle.trace.specs.Paths.{reaches, cyclic}
 use Rattle.rows.specs.Bits.{begun}
-use Rattle.graph.specs.Transactions.{Labelled}
+use Rattle.graph.specs.declared.Labelled.{Labelled}
 use Rattle.graph.specs.Edges.{edges}
 use Rattle.ancestors.specs.Sources.{closed_rows}
 use Rattle.ancestors.specs.Search.{kept_from}
@@ -21,7 +21,8 @@ use Rattle.ancestors.proofs.Standing.{Kept}
 use Rattle.ancestors.proofs.Right.{RightSources, RowsHold, begun-hold, rows-kept, rows-hold}
 use Rattle.ancestors.proofs.Right as Rows
 use Rattle.ancestors.proofs.Searching.{kept_under, rows_under, kept-snoc}
-use Rattle.second.specs.Cells.{Cells, idle}
+use Rattle.second.specs.declared.Cells.{Cells}
+use Rattle.second.specs.Cells.{idle}
 use Rattle.second.specs.Edges.{sources_of, stored_of}
 use Rattle.second.specs.Taken.{closing, taken}
 use Rattle.second.proofs.Orderly.{Orderly}

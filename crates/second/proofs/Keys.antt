@@ -16,7 +16,8 @@ use Rattle.record.specs.Record.{kind, target, target_limit}
 use Rattle.lists.specs.Lists.{from}
 use Rattle.lists.proofs.Tests.{by-same, T_of, or_cases, or_left, or_right, and_left, and_right, and_both, same_test}
 use Rattle.graph.specs.Conflict.{accesses, writes, locks, forks, joins}
-use Rattle.second.specs.Cells.{Cells, Key, cell, put, put_all, idle, asked, asks, left, leaves, stored}
+use Rattle.second.specs.declared.Cells.{Cells}
+use Rattle.second.specs.Cells.{Key, cell, put, put_all, idle, asked, asks, left, leaves, stored}
 use Rattle.second.proofs.Orderly.{ranged, of-thread, of-target}
 
 abbrev pub same_key : Key → Key → Bool

@@ -8,6 +8,5 @@ pub mod Sources
 pub mod Holding
 pub mod ByKind
 pub mod Seeking
-pub mod Shown
 pub mod Right
 pub mod Examples

@@ -1,19 +1,16 @@
 -- What the second engine needs of operations: thread and target are in range, a thread is forked once, does nothing before its fork and nothing after its
 -- join, and isn't forked after its join. Of values, locks and waits it needs nothing.
-use Prim.Native.Nat.{ℕ}
-use mathlib.Core.Path.{sym, ap, ap₂, ◌∙◌, subst}
 use mathlib.Core.Logic.{◌≢◌}
 use mathlib.Core.Bool.{Bool, ◌&&◌, ◌||◌}
-use mathlib.Core.List.{List, ◌++◌, map}
-use lib.Dec.{T, eqb, leb}
+use mathlib.Core.List.{List, ◌++◌}
+use lib.Dec.{T, leb}
 use Rattle.record.specs.declared.Event.{Event}
 use Rattle.record.specs.declared.Op.{Op}
 use Rattle.record.specs.declared.Op.TheVariants.{Read, Write, Acquire, Release, Prewait, Postwait, Notify, Fork, Join, Yield}
 use Rattle.record.specs.Record.{kind, target, target_limit}
 use Rattle.lists.proofs.Tests.{and_left, and_right}
-use Rattle.lists.proofs.Lists.{Among, Before, among-unmap, before-unmap}
+use Rattle.lists.proofs.Lists.{Among, Before}
 use Rattle.graph.specs.Conflict.{accesses, locks, forks, joins}
-use Rattle.graph.proofs.Alike.{Alike, shown_of, shown-alike}
 use Rattle.graph.proofs.Steps.{among_first, before-first}
 
 -- thread and target are in the ranges of a record
@@ -83,39 +80,10 @@ of-child (Fork u) a h = h
 of-child (Join u) a h = h
 of-child Yield a h = absurd a
 
--- ---- fewer operations, and others that are alike
+-- ---- the first of orderly ones
 
--- the first of orderly ones
 pub orderly-first : (es rest : List Event) → Orderly (es ++ rest) → Orderly es
 orderly-first es rest ok = record {
   ranges = λ x m. ok.ranges x (among_first es rest m);
   pairs = λ x y o. ok.pairs x y (before-first es rest o);
-}
-
-ranged-alike : (a b : Event) → Alike a b → T (ranged b) → T (ranged a)
-unfolding ranged
-ranged-alike a b q r = subst T (sym
-    (ap₂ (λ k x. leb a.thread 15 && leb x (target_limit k)) q.kind-is q.target_is
-    ∙ ap (λ t. leb t 15 && leb (target b.op) (target_limit (kind b.op))) q.thread)) r
-
-fits-alike : (a b c d : Event) → Alike a b → Alike c d → Fits b d → Fits a c
-unfolding forks joins
-fits-alike a b c d p q f =
-    let kind-a : (n : ℕ) → T (eqb (kind a.op) n) → T (eqb (kind b.op) n) = λ n t. subst (λ k. T (eqb k n)) p.kind-is t in
-    let kind-c : (n : ℕ) → T (eqb (kind c.op) n) → T (eqb (kind d.op) n) = λ n t. subst (λ k. T (eqb k n)) q.kind-is t in
-    record {
-      joined = λ j e. f.joined (kind-a 9 j) (sym p.target_is ∙ e ∙ q.thread);
-      acted = λ g e. f.acted (kind-c 8 g) (sym p.thread ∙ e ∙ q.target_is);
-      forked = λ g h e. f.forked (kind-c 8 g) (kind-a 8 h) (sym p.target_is ∙ e ∙ q.target_is);
-      ended = λ g j e. f.ended (kind-c 8 g) (kind-a 9 j) (sym p.target_is ∙ e ∙ q.target_is);
-    }
-
--- as arrays show them, by thread, kind and target
-pub orderly-shown : (es : List Event) → Orderly es → Orderly (map shown_of es)
-orderly-shown es ok = record {
-  ranges = λ x m. let u = among-unmap shown_of x es m in
-      subst (λ z. T (ranged z)) u.2 (ranged-alike (shown_of u.0) u.0 (shown-alike u.0) (ok.ranges u.0 u.1));
-  pairs = λ x y o. let u = before-unmap shown_of x y es o in
-      subst (λ z. Fits z y) u.3 (subst (λ z. Fits (shown_of u.0) z) u.4
-      (fits-alike (shown_of u.0) u.0 (shown_of u.1) u.1 (shown-alike u.0) (shown-alike u.1) (ok.pairs u.0 u.1 u.2)));
 }

@@ -3,7 +3,7 @@
 --   search-right  its search finds the shortest prefix with a cycle, and leaves the rows by which the order or the cycle is named
 use Prim.Native.Nat.{ℕ, ◌≤◌}
 use mathlib.Core.Path.{◌≡◌, sym, ap, ◌∙◌, subst}
-use mathlib.Core.List.{List, [], ◌∷◌, ◌++◌, map}
+use mathlib.Core.List.{List, [], ◌∷◌, ◌++◌}
 use lib.Dec.{T}
 use lib.ListN.{take}
 use lib.Seq.{append_snoc}
@@ -12,18 +12,17 @@ use Rattle.record.specs.Record.{in_range}
 use Rattle.replay.specs.Machine.{fresh, possible}
 use Rattle.lists.specs.Lists.{all_of}
 use Rattle.lists.proofs.Lists.{among-take, before-take, map-append}
-use Rattle.graph.specs.Transactions.{Labelled, none_yet, labelled, transactions, transaction_limit}
+use Rattle.graph.specs.declared.Labelled.{Labelled}
+use Rattle.graph.specs.Transactions.{none_yet, labelled, transactions, transaction_limit}
 use Rattle.graph.specs.Violation.{edges_up_to}
-use Rattle.graph.specs.Held.{shown_of}
-use Rattle.graph.proofs.Alike.{shown-alike, transactions-alike}
 use Rattle.graph.proofs.Labels.{labelled-events}
 use Rattle.ancestors.specs.Ancestors.{Stands, Found}
-use Rattle.ancestors.proofs.Searching.{RightEngine, searched-right, found_alike}
+use Rattle.ancestors.proofs.Searching.{RightEngine, searched-right}
 use Rattle.second.specs.Cells.{idle}
 use Rattle.second.specs.Edges.{sources_of, stored_of}
 use Rattle.second.specs.Meaning.{Demanded}
 use Rattle.second.specs.Taken.{second_searched}
-use Rattle.second.proofs.Orderly.{Orderly, orderly-first, orderly-shown}
+use Rattle.second.proofs.Orderly.{Orderly, orderly-first}
 use Rattle.second.proofs.Possible.{possible-orderly}
 use Rattle.second.proofs.Agree.{events_of, edges-agree, paths-agree, cycles-agree}
 use Rattle.second.proofs.Sources.{right-sources}
@@ -50,17 +49,12 @@ right-engine es ok xs x later is =
     sym (labelled-events none_yet es) ∙ ap events_of (sym is ∙ sym (append_snoc xs x later)) ∙ map-append (λ y. y.event) (xs ++ (x ∷ [])) later in
     right-sources xs x (orderly-first (events_of (xs ++ (x ∷ []))) (events_of later) (subst Orderly whole ok))
 
--- Its search over the records of orderly operations, as arrays show them, with at most 512 transactions, from rows that stand for no edges
-pub search-right : (es : List Event) → Orderly es → transactions es ≤ transaction_limit → (xs : List Labelled) → xs ≡ labelled (map shown_of es)
-    → (work : List ℕ) → Stands (transactions es) work [] → Found es work (second_searched work xs).prefix (second_searched work xs).rows
-search-right es ok few xs is work stands =
-    let n : transactions (map shown_of es) ≡ transactions es = transactions-alike shown_of shown-alike es in
-    subst (λ l. Found es work (second_searched work l).prefix (second_searched work l).rows) (sym is)
-    (found_alike es work (second_searched work (labelled (map shown_of es))).prefix (second_searched work (labelled (map shown_of es))).rows
-    (searched-right sources_of stored_of idle (map shown_of es) (subst (λ k. k ≤ transaction_limit) (sym n) few) (right-engine (map shown_of es) (orderly-shown es ok)) work
-    (subst (λ k. Stands k work []) (sym n) stands)))
+-- Its search over the records of orderly operations, with at most 512 transactions, from rows that stand for no edges
+pub search-right : (es : List Event) → Orderly es → transactions es ≤ transaction_limit
+    → (work : List ℕ) → Stands (transactions es) work [] → Found es work (second_searched work (labelled es)).prefix (second_searched work (labelled es)).rows
+search-right es ok few work stands = searched-right sources_of stored_of idle es few (right-engine es ok) work stands
 
 -- so over those of every possible history whose fields are in range
-pub possible-search-right : (es : List Event) → T (possible fresh es) → T (all_of in_range es) → transactions es ≤ transaction_limit → (xs : List Labelled) → xs ≡ labelled (map shown_of es)
-    → (work : List ℕ) → Stands (transactions es) work [] → Found es work (second_searched work xs).prefix (second_searched work xs).rows
+pub possible-search-right : (es : List Event) → T (possible fresh es) → T (all_of in_range es) → transactions es ≤ transaction_limit
+    → (work : List ℕ) → Stands (transactions es) work [] → Found es work (second_searched work (labelled es)).prefix (second_searched work (labelled es)).rows
 possible-search-right es p r = search-right es (possible-orderly es p r)

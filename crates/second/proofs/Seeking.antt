@@ -1,75 +1,61 @@
--- What the code of the search cites: the operations that arrays hold, one after the other.
-use Prim.Native.Nat.{ℕ, suc, ◌+◌, ◌<◌, ◌≤◌, min}
-use native.Mathlib.Omega.{arith}
+-- What the code of the search cites: the records, one after the other.
+use Prim.Native.Nat.{ℕ, suc, ◌+◌, ◌<◌, ◌≤◌}
 use native.Mathlib.Numerals.{add-one}
 use mathlib.Core.Path.{◌≡◌, refl, sym, ap, ap₂, ◌∙◌}
-use mathlib.Core.Bool.{Bool, true, false}
-use mathlib.Core.List.{List}
-use lib.ListN.{get_or, drop}
-use Rattle.record.specs.declared.Event.{Event}
-use Rattle.graph.specs.Held.{shown, labelled_as, array_size, events_in, record_at, held}
-use Rattle.graph.proofs.Held.{events-at}
+use mathlib.Core.Bool.{true, false}
+use mathlib.Core.List.{List, ◌∷◌}
+use lib.ListN.{length, get_or, drop, drop_of_length-le}
+use lib.Seq.{drop-cons}
+use Rattle.graph.specs.declared.Labelled.{Labelled}
 use Rattle.ancestors.specs.Sources.{looked, begun_with}
 use Rattle.ancestors.specs.Search.{Searched, closes_cycle, rows_with, kept_with, searched_from}
-use Rattle.ancestors.proofs.Searching.{search-ends, search-hits, search-goes-on}
-use Rattle.second.specs.Cells.{Cells, idle}
+use Rattle.ancestors.proofs.Searching.{searched-none, searched-hit, searched-more}
+use Rattle.second.specs.declared.Cells.{Cells}
+use Rattle.second.specs.Cells.{idle}
 use Rattle.second.specs.Edges.{sources_of, stored_of}
 use Rattle.second.specs.Taken.{taken_as, taken, searched_as, second_searched}
 
-module _ (threads kinds targets labels : List ℕ) (count : ℕ) (start : List ℕ) where
-  abbrev most : ℕ
-  most = min count array_size
-
-  abbrev all : List Event
-  all = events_in threads kinds targets
-
-  -- what the search gives of what is left, where i operations are behind it and n transactions have begun
+module _ (records : List Labelled) (start : List ℕ) where
+  -- what the search gives of what is left, where i records are behind it and n transactions have begun
   abbrev left : ℕ → ℕ → Cells → List ℕ → Searched
-  left i n s work = searched_from sources_of stored_of i n s work (drop i (held (min count array_size) (events_in threads kinds targets) labels))
+  left i n s work = searched_from sources_of stored_of i n s work (drop i records)
 
   -- it is what all give
   abbrev pub Seeking : ℕ → ℕ → Cells → List ℕ → Type 0
-  Seeking i n s work = second_searched start (held (min count array_size) (events_in threads kinds targets) labels) ≡ left i n s work
+  Seeking i n s work = second_searched start records ≡ searched_from sources_of stored_of i n s work (drop i records)
 
   pub seeking-none : Seeking 0 0 idle start
   seeking-none = refl
 
   module _ (i n : ℕ) (s : Cells) (work : List ℕ) (at : Seeking i n s work) where
     -- none is left
-    pub seeking-all : min count array_size ≤ i → searched_as 0 work ≡ second_searched start (held (min count array_size) (events_in threads kinds targets) labels)
-    seeking-all h = sym (at ∙ search-ends sources_of stored_of most all labels i n s work h)
+    pub seeking-all : length records ≤ i → searched_as 0 work ≡ second_searched start records
+    seeking-all h = sym (at ∙ ap (searched_from sources_of stored_of i n s work) (drop_of_length-le records {i = i} h) ∙ searched-none sources_of stored_of i n s work)
 
     -- one more
-    module _ (h : i < count) (g : i < array_size) where
-      abbrev a : ℕ
-      a = get_or labels i 0
+    module _ (d : Labelled) (h : i < length records) (cells : Cells) (rows : List ℕ) (k : ℕ) (is-k : k ≡ looked (get_or records i d).transaction n)
+        (is : taken_as cells rows ≡ taken s work k (get_or records i d).transaction (get_or records i d).event) where
+      abbrev x : Labelled
+      x = get_or records i d
 
-      abbrev e : Event
-      e = shown (get_or threads i 0) (get_or kinds i 0) (get_or targets i 0)
+      one-left : left i n s work ≡ searched_from sources_of stored_of i n s work (x ∷ drop (suc i) records)
+      one-left = ap (searched_from sources_of stored_of i n s work) (drop-cons records i d h)
 
-      record_is : record_at all labels i ≡ labelled_as a e
-      record_is = ap (labelled_as a) (events-at threads kinds targets i g)
+      rows_are : rows ≡ rows_with sources_of s work (looked x.transaction n) x
+      unfolding taken
+      rows_are = ap (λ t. t.rows) is ∙ ap (λ l. rows_with sources_of s work l x) is-k
 
-      module _ (r : Bool) (is-r : r ≡ closes_cycle sources_of s work (labelled_as a e)) (k : ℕ) (is-k : k ≡ looked a n) (cells : Cells) (rows : List ℕ)
-          (is : taken_as cells rows ≡ taken s work k a e) where
-        closes : closes_cycle sources_of s work (record_at all labels i) ≡ r
-        closes = ap (closes_cycle sources_of s work) record_is ∙ sym is-r
+      cells_are : cells ≡ kept_with stored_of s x
+      unfolding taken
+      cells_are = ap (λ t. t.cells) is
 
-        rows_are : rows ≡ rows_with sources_of s work (looked a n) (record_at all labels i)
-        unfolding taken
-        rows_are = ap (λ t. t.rows) is ∙ ap₂ (λ l x. rows_with sources_of s work l x) is-k (sym record_is)
+      -- it closes a cycle
+      pub seeking-hit : true ≡ closes_cycle sources_of s work (get_or records i d) → searched_as (suc i) rows ≡ second_searched start records
+      seeking-hit c = ap (searched_as (suc i)) rows_are ∙ sym (at ∙ one-left ∙ searched-hit sources_of stored_of i n s work x (drop (suc i) records) (sym c))
 
-        cells_are : cells ≡ kept_with stored_of s (record_at all labels i)
-        unfolding taken
-        cells_are = ap (λ t. t.cells) is ∙ ap (kept_with stored_of s) (sym record_is)
-
-        -- it closes a cycle
-        pub seeking-hit : r ≡ true → searched_as (i + 1) rows ≡ second_searched start (held (min count array_size) (events_in threads kinds targets) labels)
-        seeking-hit c = ap₂ searched_as (add-one i) rows_are ∙ sym (at ∙ search-hits sources_of stored_of most all labels i n s work (omega arith) (closes ∙ c))
-
-        -- it closes none
-        pub seeking-more : r ≡ false → (m : ℕ) → m ≡ begun_with a n → Seeking (i + 1) m cells rows
-        seeking-more c m is_m =
-            at ∙ search-goes-on sources_of stored_of most all labels i n s work (omega arith) (closes ∙ c)
-            ∙ ap₂ (left (suc i) (begun_with a n)) (sym cells_are) (sym rows_are)
-            ∙ ap₂ (λ j l. left j l cells rows) (sym (add-one i)) (sym is_m)
+      -- it closes none
+      pub seeking-more : false ≡ closes_cycle sources_of s work (get_or records i d) → (m : ℕ) → m ≡ begun_with (get_or records i d).transaction n → Seeking (i + 1) m cells rows
+      seeking-more c m is_m =
+          at ∙ one-left ∙ searched-more sources_of stored_of i n s work x (drop (suc i) records) (sym c)
+          ∙ ap₂ (left (suc i) (begun_with x.transaction n)) (sym cells_are) (sym rows_are)
+          ∙ ap₂ (λ j l. left j l cells rows) (sym (add-one i)) (sym is_m)

@@ -11,11 +11,12 @@ use Rattle.lists.proofs.Lists.{Among, some_same, some-has, map-append}
 use Rattle.trace.specs.Paths.{has_edge, PathAlong, reaches}
 use Rattle.trace.proofs.Reach.{complete}
 use Rattle.trace.proofs.Closing.{reaches-goal}
-use Rattle.graph.specs.Transactions.{Labelled}
+use Rattle.graph.specs.declared.Labelled.{Labelled}
 use Rattle.graph.specs.Edges.{edges}
 use Rattle.ancestors.specs.Search.{kept_from}
 use Rattle.ancestors.proofs.Right.{RightSources}
-use Rattle.second.specs.Cells.{Cells, idle}
+use Rattle.second.specs.declared.Cells.{Cells}
+use Rattle.second.specs.Cells.{idle}
 use Rattle.second.specs.Edges.{sources_of, stored_of, second_edges}
 use Rattle.second.proofs.Orderly.{Orderly, orderly-first}
 use Rattle.second.proofs.Agree.{events_of, edges-agree, paths-agree, second-snoc}

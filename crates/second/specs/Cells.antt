@@ -3,16 +3,11 @@ use Rattle.std.specs.Prelude.{ℕ, suc, ◌+◌, ◌*◌, List, [], ◌∷◌, m
 use Rattle.record.specs.declared.Event.{Event}
 use Rattle.record.specs.declared.Op.{Op}
 use Rattle.record.specs.declared.Op.TheVariants.{Read, Write, Acquire, Release, Prewait, Postwait, Notify, Fork, Join, Yield}
+use Rattle.second.specs.declared.Cells.{Cells}
 use Rattle.lists.specs.Lists.{below}
 use Rattle.ancestors.specs.Others.{others}
 
--- For each lock, thread and variable, and for each variable and thread: 0, or a transaction and 1
-pub record Cells : Type 0 where
-  pub locks : List ℕ
-  pub threads : List ℕ
-  pub writers : List ℕ
-  pub readers : List ℕ
-
+-- Cells: for each lock, thread and variable, and for each variable and thread, 0, or a transaction and 1
 abbrev pub cells_of : List ℕ → List ℕ → List ℕ → List ℕ → Cells
 cells_of locks threads writers readers = record { locks = locks; threads = threads; writers = writers; readers = readers }
 

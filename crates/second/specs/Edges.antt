@@ -1,8 +1,9 @@
 -- The second engine's edges (document 02, L7): fewer than those of document 01, with the same paths.
 use Rattle.std.specs.Prelude.{ℕ, List, [], ◌∷◌, ◌++◌, map}
 use Rattle.trace.specs.Paths.{Edge}
-use Rattle.graph.specs.Transactions.{Labelled}
-use Rattle.second.specs.Cells.{Cells, idle, sources, stored}
+use Rattle.graph.specs.declared.Labelled.{Labelled}
+use Rattle.second.specs.declared.Cells.{Cells}
+use Rattle.second.specs.Cells.{idle, sources, stored}
 
 abbrev pub sources_of : Cells → Labelled → List ℕ
 sources_of s x = sources s x.transaction x.event

@@ -4,10 +4,10 @@ use Rattle.std.specs.Prelude.{ℕ, ◌+◌, ◌*◌, Bool, List, map, get_or}
 use Rattle.record.specs.declared.Event.{Event}
 use Rattle.lists.specs.Lists.{some_of, below}
 use Rattle.rows.specs.Bits.{has}
-use Rattle.graph.specs.Held.{labelled_as}
-use Rattle.graph.specs.Transactions.{Labelled}
+use Rattle.graph.specs.declared.Labelled.{Labelled}
 use Rattle.ancestors.specs.Search.{Searched, rows_with, kept_with, searched}
-use Rattle.second.specs.Cells.{Cells, idle, sources}
+use Rattle.second.specs.declared.Cells.{Cells}
+use Rattle.second.specs.Cells.{idle, sources}
 use Rattle.second.specs.Edges.{sources_of, stored_of}
 
 -- Whether an operation of transaction a closes a cycle: a reaches one of its sources, by the rows
@@ -24,7 +24,9 @@ taken_as s work = record { cells = s; rows = work }
 
 -- An operation of transaction a taken in, with n rows to look at
 unfoldable pub taken : Cells → List ℕ → ℕ → ℕ → Event → Taken
-taken s work n a e = taken_as (kept_with stored_of s (labelled_as a e)) (rows_with sources_of s work n (labelled_as a e))
+taken s work n a e =
+    let x : Labelled = record { transaction = a; event = e } in
+    taken_as (kept_with stored_of s x) (rows_with sources_of s work n x)
 
 -- What its search answers and leaves, and the search over labelled operations, from rows that are lent
 abbrev pub searched_as : ℕ → List ℕ → Searched

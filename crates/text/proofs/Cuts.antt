@@ -8,26 +8,25 @@ use lib.ListN.{length, get_or, take, drop, length-append, length-take, take-appe
 use lib.Seq.{take-nil, take_all, take-take, take-add, drop_at, get_or-take, length-take-le}
 use lib.Dec.{T, leb, eqb}
 use borrow.Author.Tests.{leb-true, leb-false, eqb-false}
+use Rattle.std.specs.Prelude.{Result, Ok, Err}
 use Rattle.lists.specs.Lists.{each}
 use Rattle.lists.proofs.Tests.{by}
 use Rattle.record.specs.declared.Event.{Event}
 use Rattle.record.specs.declared.Op.{Op}
-use Rattle.record.specs.declared.Refusal.{Refusal}
-use Rattle.record.specs.declared.Decoded.{Decoded}
-use Rattle.record.specs.declared.Decoded.TheVariants.{Good, Refused}
+use Rattle.record.specs.Faults.{Refusal}
 use Rattle.record.specs.Record.{kind, target, value, target_limit, in_range}
 use Rattle.record.proofs.Laws.{shape}
 use Rattle.decimal.specs.Decimal.{decimal}
 use Rattle.decimal.proofs.Decimals.{size-two, size-three, size-five}
 use Rattle.text.specs.Line.{line_feed, name, fields, line_of, line_read, last_byte}
 use Rattle.text.specs.File.{first_refused, events, feeds, lines, read_text}
-use Rattle.text.specs.Steps.{before, line_size, spaced_out}
+use Rattle.text.specs.Steps.{spaced_out}
 use Rattle.text.proofs.Lines.{InRange, in-range, written_read, line-unended, Fourteen, line-fourteen}
 use Rattle.text.proofs.Makings.{field-size, fields-none, fields-one, fields-two, line-parts}
 use Rattle.text.proofs.Scans.{name-short}
 use Rattle.text.proofs.Files.{AllIn, first_good, first-refused, none_read, line-counted, text-written, feeds-both, feeds-written, read-line-refused, read-sizes}
 use Rattle.text.proofs.Words.{lines-together}
-use Rattle.text.proofs.Wholes.{size-cut, size-on, lines-begin}
+use Rattle.text.proofs.Wholes.{before, line_size, size-cut, size-on, lines-begin}
 
 -- ---- A line of the form has at most 22 bytes
 
@@ -92,7 +91,7 @@ size-le t = omega arith
 abbrev fourteen : ℕ → Refusal
 fourteen k = record { number = 14; place = k }
 
-refused-fourteen : (k : ℕ) (p : List ℕ) (ps : List (List ℕ)) (f : Refusal) → line_read p ≡ Refused f → first_refused line_read k (p ∷ ps) ≡ fourteen k
+refused-fourteen : (k : ℕ) (p : List ℕ) (ps : List (List ℕ)) (f : Refusal) → line_read p ≡ Err f → first_refused line_read k (p ∷ ps) ≡ fourteen k
 refused-fourteen k p ps f h =
     let n : f.number ≡ 14 = subst Fourteen h (line-fourteen p) in
     first-refused line_read k p ps f h ∙ ap (λ x. record { number = x; place = k }) n
@@ -127,7 +126,7 @@ module _ (m k : ℕ) (t : List ℕ) (some : 0 < length t) (long : 0 < m) where
       let last : get_or t (m - 1) 0 ≡ line_feed = sym (get_or-take m t (m - 1) 0 (omega arith)) ∙ sym (ap (λ j. get_or (take m t) (j - 1) 0) n) ∙ e in
       inside-line t (m - 1) (omega arith) last
 
-  cut-refused : (f : Refusal) → line_read (take size t) ≡ Refused f → first_refused line_read k (lines (take m t)) ≡ first_refused line_read k (lines t)
+  cut-refused : (f : Refusal) → line_read (take size t) ≡ Err f → first_refused line_read k (lines (take m t)) ≡ first_refused line_read k (lines t)
   cut-refused f h =
       by (leb size m)
       (λ e. ap (first_refused line_read k) (cut-lines size (omega (arith, leb-true size m e))) ∙ refused-fourteen k (take size t) (lines (take (m - size) (drop size t))) f h)
@@ -135,7 +134,7 @@ module _ (m k : ℕ) (t : List ℕ) (some : 0 < length t) (long : 0 < m) where
       ap (first_refused line_read k) (cut-lines m (omega arith)) ∙ refused-fourteen k (take m t) (lines (take (m - m) (drop m t))) (record { number = 14; place = 0 }) (line-unended (take m t) (unended l)))
       ∙ sym (ap (first_refused line_read k) whole-lines ∙ refused-fourteen k (take size t) (lines (drop size t)) f h)
 
-  module _ (e : Event) (good : line_read (take size t) ≡ Good e) where
+  module _ (e : Event) (good : line_read (take size t) ≡ Ok e) where
     good-size : size ≤ 22
     good-size = let w = written_read (take size t) e good in omega (arith, ap length w.0, line-short e w.1, length-take-le size t (size-le t))
 
@@ -163,12 +162,12 @@ cut_step n m k (c ∷ t) few long behind = go (line_read (take (line_size l) l))
     l : List ℕ
     l = c ∷ t
 
-    go : (d : Decoded) → line_read (take (line_size l) l) ≡ d → first_refused line_read k (lines (take m l)) ≡ first_refused line_read k (lines l)
-    go (Good e) h =
+    go : (d : Result Event Refusal) → line_read (take (line_size l) l) ≡ d → first_refused line_read k (lines (take m l)) ≡ first_refused line_read k (lines l)
+    go (Ok e) h =
         let one : feeds l ≡ 1 + feeds (drop (line_size l) l) = good-feeds m k l (omega arith) (omega arith) e h in
         let small : line_size l ≤ 22 = good-size m k l (omega arith) (omega arith) e h in
         cut-good m k l (omega arith) (omega arith) e h (omega arith) (behind (n - 1) (omega arith) (omega arith) (omega arith))
-    go (Refused f) h = cut-refused m k l (omega arith) (omega arith) f h
+    go (Err f) h = cut-refused m k l (omega arith) (omega arith) f h
 
 -- a cut of more than 22 bytes for each line feed finds what the whole finds
 cut-first : (n m k : ℕ) (t : List ℕ) → feeds t ≤ n → 22 * n < m → first_refused line_read k (lines (take m t)) ≡ first_refused line_read k (lines t)

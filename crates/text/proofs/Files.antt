@@ -9,14 +9,12 @@ use lib.ListN.{length, take, drop, length-append, length-drop, take-append-drop}
 use lib.Seq.{take-append_seam, take_at, drop_at}
 use lib.Dec.{T, leb, eqb}
 use borrow.Author.Tests.{le-leb, lt-leb, leb-true, leb-false, eq-eqb, eqb-true}
+use Rattle.std.specs.Prelude.{Result, Ok, Err}
 use Rattle.lists.specs.Lists.{keep, each, over}
 use Rattle.lists.proofs.Tests.{by}
 use Rattle.lists.proofs.Lists.{keep-true, keep-false}
 use Rattle.record.specs.declared.Event.{Event}
-use Rattle.record.specs.declared.Refusal.{Refusal}
-use Rattle.record.specs.declared.Decoded.{Decoded}
-use Rattle.record.specs.declared.Decoded.TheVariants.{Good, Refused}
-use Rattle.record.specs.Faults.{first_fault}
+use Rattle.record.specs.Faults.{Refusal, first_fault}
 use Rattle.record.specs.Record.{size_check, checks, event, encoded, decoded, in_range, records, records_of}
 use Rattle.record.proofs.Laws.{none_first, decode-encoded, encode-decoded, decoded-range, length-encoded, decoded-passed, decoded-failed}
 use Rattle.text.specs.Line.{line_feed, spaced, words_of, line_of, line_read}
@@ -27,16 +25,16 @@ use Rattle.text.proofs.Lines.{body-lacks, read-written, written_read, Fourteen, 
 
 -- ---- Parts of a file, each read by itself
 
-module _ (read : List ℕ → Decoded) where
-  pub first_good : (k : ℕ) (p : List ℕ) (ps : List (List ℕ)) (e : Event) → read p ≡ Good e → first_refused read k (p ∷ ps) ≡ first_refused read (suc k) ps
+module _ (read : List ℕ → Result Event Refusal) where
+  pub first_good : (k : ℕ) (p : List ℕ) (ps : List (List ℕ)) (e : Event) → read p ≡ Ok e → first_refused read k (p ∷ ps) ≡ first_refused read (suc k) ps
   unfolding first_refused
   first_good k p ps e h = rw (h, first_refused)
 
-  pub first-refused : (k : ℕ) (p : List ℕ) (ps : List (List ℕ)) (f : Refusal) → read p ≡ Refused f → first_refused read k (p ∷ ps) ≡ record { number = f.number; place = k }
+  pub first-refused : (k : ℕ) (p : List ℕ) (ps : List (List ℕ)) (f : Refusal) → read p ≡ Err f → first_refused read k (p ∷ ps) ≡ record { number = f.number; place = k }
   unfolding first_refused
   first-refused k p ps f h = rw (h, first_refused)
 
-  pub events-good : (p : List ℕ) (ps : List (List ℕ)) (e : Event) → read p ≡ Good e → events read (p ∷ ps) ≡ e ∷ events read ps
+  pub events-good : (p : List ℕ) (ps : List (List ℕ)) (e : Event) → read p ≡ Ok e → events read (p ∷ ps) ≡ e ∷ events read ps
   unfolding events each
   events-good p ps e h = ap (λ d. found d ++ events read ps) h
 
@@ -45,7 +43,7 @@ module _ (read : List ℕ → Decoded) where
   AllRead [] [] = Unit {0}
   AllRead [] (e ∷ es) = ⊥
   AllRead (p ∷ ps) [] = ⊥
-  AllRead (p ∷ ps) (e ∷ es) = (read p ≡ Good e) × AllRead ps es
+  AllRead (p ∷ ps) (e ∷ es) = (read p ≡ Ok e) × AllRead ps es
 
   pub read_none : (k : ℕ) (ps : List (List ℕ)) (es : List Event) → AllRead ps es → first_refused read k ps ≡ record { number = 0; place = 0 }
   unfolding first_refused
@@ -62,28 +60,28 @@ module _ (read : List ℕ → Decoded) where
   read-events (p ∷ ps) (e ∷ es) h = events-good p ps e h.0 ∙ ap (λ r. e ∷ r) (read-events ps es h.1)
 
   -- where no part is refused, all are read
-  pub none_read : ((p : List ℕ) (f : Refusal) → read p ≡ Refused f → 1 ≤ f.number) → (k : ℕ) (ps : List (List ℕ)) → (first_refused read k ps).number ≡ 0 → AllRead ps (events read ps)
+  pub none_read : ((p : List ℕ) (f : Refusal) → read p ≡ Err f → 1 ≤ f.number) → (k : ℕ) (ps : List (List ℕ)) → (first_refused read k ps).number ≡ 0 → AllRead ps (events read ps)
   unfolding first_refused events each
   none_read counted k [] h = tt
   none_read counted k (p ∷ ps) h = go (read p) refl (none_read counted (suc k) ps)
     where
-      go : (d : Decoded) → read p ≡ d → ((first_refused read (suc k) ps).number ≡ 0 → AllRead ps (events read ps)) → AllRead (p ∷ ps) (events read (p ∷ ps))
-      go (Good e) q rest = subst (λ es. AllRead (p ∷ ps) es) (sym (events-good p ps e q)) (q, rest (sym (ap (λ f. f.number) (first_good k p ps e q)) ∙ h))
-      go (Refused f) q rest = let z : f.number ≡ 0 = sym (ap (λ g. g.number) (first-refused k p ps f q)) ∙ h in absurd (omega (arith, counted p f q))
+      go : (d : Result Event Refusal) → read p ≡ d → ((first_refused read (suc k) ps).number ≡ 0 → AllRead ps (events read ps)) → AllRead (p ∷ ps) (events read (p ∷ ps))
+      go (Ok e) q rest = subst (λ es. AllRead (p ∷ ps) es) (sym (events-good p ps e q)) (q, rest (sym (ap (λ f. f.number) (first_good k p ps e q)) ∙ h))
+      go (Err f) q rest = let z : f.number ≡ 0 = sym (ap (λ g. g.number) (first-refused k p ps f q)) ∙ h in absurd (omega (arith, counted p f q))
 
 -- a refusal has a number above 0
-pub line-counted : (line : List ℕ) (f : Refusal) → line_read line ≡ Refused f → 1 ≤ f.number
+pub line-counted : (line : List ℕ) (f : Refusal) → line_read line ≡ Err f → 1 ≤ f.number
 line-counted line f h = let n : f.number ≡ 14 = subst Fourteen h (line-fourteen line) in omega arith
 
-pub record-counted : (bs : List ℕ) (f : Refusal) → decoded bs ≡ Refused f → 1 ≤ f.number
+pub record-counted : (bs : List ℕ) (f : Refusal) → decoded bs ≡ Err f → 1 ≤ f.number
 record-counted bs f h = go (first_fault (size_check bs ∷ checks bs)) refl
   where
     go : (n : ℕ) → first_fault (size_check bs ∷ checks bs) ≡ n → 1 ≤ f.number
     go zero z =
-        let g : Good (event bs) ≡ Refused f = sym (decoded-passed bs z) ∙ h in
+        let g : Ok (event bs) ≡ Err f = sym (decoded-passed bs z) ∙ h in
         let no : ◌≡◌ {A = ℕ} 0 1 = cc g in absurd (omega arith)
     go (suc n) z =
-        let g : Refused (record { number = suc n; place = 0 }) ≡ Refused f = sym (decoded-failed bs n z) ∙ h in
+        let g : Err (record { number = suc n; place = 0 }) ≡ Err f = sym (decoded-failed bs n z) ∙ h in
         let same : suc n ≡ f.number = cc g in omega arith
 
 -- ---- Every event in range

@@ -8,11 +8,11 @@ use lib.ListN.{length, get_or, take, length-append}
 use lib.Seq.{take_at, get_or_at, take-suc, take-length}
 use lib.Dec.{T, leb, eqb, le→leb, leb→le}
 use borrow.Author.Tests.{leb-true, leb-false, eq-eqb, ne_eqb, eqb-true, eqb-false}
+use Rattle.std.specs.Prelude.{Result, Ok, Err}
 use Rattle.lists.proofs.Tests.{by, and-true, and_left, and_right, and_both}
 use Rattle.record.specs.declared.Event.{Event}
 use Rattle.record.specs.declared.Op.{Op}
-use Rattle.record.specs.declared.Decoded.{Decoded}
-use Rattle.record.specs.declared.Decoded.TheVariants.{Good, Refused}
+use Rattle.record.specs.Faults.{Refusal}
 use Rattle.record.specs.Record.{kind, target, value, target_limit, operation, in_range}
 use Rattle.record.proofs.Laws.{Shape, shape, Parts, parts}
 use Rattle.decimal.specs.Decimal.{decimal, value_from, value_of, is_number}
@@ -128,7 +128,7 @@ few-fields k l = by_count k (λ e h. absurd (omega arith)) (λ e h g. omega arit
 -- ---- Reading, step by step
 
 pub fields-good : (t k : ℕ) (ws : List (List ℕ)) → fit (limits k) ws ≡ true
-    → read_fields t k ws ≡ Good (record { thread = t; op = operation k (value_of (get_or ws 0 [])) (value_of (get_or ws 1 [])) })
+    → read_fields t k ws ≡ Ok (record { thread = t; op = operation k (value_of (get_or ws 0 [])) (value_of (get_or ws 1 [])) })
 unfolding read_fields
 fields-good t k ws h = rw (h, read_fields)
 
@@ -228,7 +228,7 @@ no_target k x l h r =
     let e : k ≡ 10 = omega arith in
     let z : x ≤ 0 = subst (λ i. x ≤ target_limit i) e r in omega arith
 
-pub read-written : (e : Event) → T (in_range e) → line_read (line_of e) ≡ Good e
+pub read-written : (e : Event) → T (in_range e) → line_read (line_of e) ≡ Ok e
 unfolding line_of words_of fields limits
 read-written e r =
     let o : Op = e.op in
@@ -244,8 +244,8 @@ read-written e r =
     ∙ ap (λ t. read_operation t (name k ∷ ws)) (value-decimal e.thread)
     ∙ operation-named e.thread k (name k) ws (kind-name k s.low s.high) s.low
     ∙ fields-good e.thread k ws f.fits
-    ∙ ap₂ (λ x v. Good (record { thread = e.thread; op = operation k x v })) f.first f.second
-    ∙ ap (λ p. Good (record { thread = e.thread; op = p })) s.made
+    ∙ ap₂ (λ x v. Ok (record { thread = e.thread; op = operation k x v })) f.first f.second
+    ∙ ap (λ p. Ok (record { thread = e.thread; op = p })) s.made
 
 -- ---- What reads is what would be written
 
@@ -254,10 +254,10 @@ record Read (ws : List (List ℕ)) (e : Event) : Type 0 where
   same : words_of e ≡ ws
   range : InRange e
 
-good-bad : {C : Type 0} (e : Event) → formless ≡ Good e → C
+good-bad : {C : Type 0} (e : Event) → formless ≡ Ok e → C
 good-bad e h = let z : ◌≡◌ {A = ℕ} 0 1 = cc h in absurd (omega arith)
 
-fields_read : (t k : ℕ) (w : List ℕ) (ws : List (List ℕ)) (e : Event) → t ≤ 15 → kind_named w ≡ k → 1 ≤ k → read_fields t k ws ≡ Good e → Read (decimal t ∷ w ∷ ws) e
+fields_read : (t k : ℕ) (w : List ℕ) (ws : List (List ℕ)) (e : Event) → t ≤ 15 → kind_named w ≡ k → 1 ≤ k → read_fields t k ws ≡ Ok e → Read (decimal t ∷ w ∷ ws) e
 unfolding words_of fields
 fields_read t k w ws e l n low h = by (fit (limits k) ws) good (λ b. good-bad e (sym (fields-bad t k ws b) ∙ h))
   where
@@ -268,7 +268,7 @@ fields_read t k w ws e l n low h = by (fit (limits k) ws) good (λ b. good-bad e
         let f : Fitted (field_count k) (target_limit k) 65535 ws = fitted k ws b in
         let high : k ≤ 10 = named-low w k n in
         let p : Parts k x v = parts k x v low high f.first (λ g. f.no_second (few-fields k g)) in
-        let g : Good (record { thread = t; op = operation k x v }) ≡ Good e = sym (fields-good t k ws b) ∙ h in
+        let g : Ok (record { thread = t; op = operation k x v }) ≡ Ok e = sym (fields-good t k ws b) ∙ h in
         let o : Op = operation k x v in
         let same-event : record { thread = t; op = o } ≡ e = cc g in
         subst (λ y. Read (decimal t ∷ w ∷ ws) y) same-event
@@ -280,7 +280,7 @@ fields_read t k w ws e l n low h = by (fit (limits k) ws) good (λ b. good-bad e
           range = record { thread = l; target = rw (p.kind-is, p.target_is) f.first; value = rw p.value-is f.second };
         })
 
-operation-read : (t : ℕ) (ws : List (List ℕ)) (e : Event) → t ≤ 15 → read_operation t ws ≡ Good e → Read (decimal t ∷ ws) e
+operation-read : (t : ℕ) (ws : List (List ℕ)) (e : Event) → t ≤ 15 → read_operation t ws ≡ Ok e → Read (decimal t ∷ ws) e
 operation-read t [] e l h = good-bad e (sym (operation-missing t) ∙ h)
 operation-read t (w ∷ ws) e l h = go (kind_named w) refl
   where
@@ -288,7 +288,7 @@ operation-read t (w ∷ ws) e l h = go (kind_named w) refl
     go zero n = good-bad e (sym (operation-none t w ws n) ∙ h)
     go (suc k) n = fields_read t (suc k) w ws e l n (omega arith) (sym (operation-named t (suc k) w ws n (omega arith)) ∙ h)
 
-words-read : (ws : List (List ℕ)) (e : Event) → read_words ws ≡ Good e → Read ws e
+words-read : (ws : List (List ℕ)) (e : Event) → read_words ws ≡ Ok e → Read ws e
 unfolding read_words
 words-read [] e h = good-bad e h
 words-read (w ∷ ws) e h = by (is_number 15 w)
@@ -302,7 +302,7 @@ ends-in c l e some =
     let n : suc (length l - 1) ≡ length l = omega arith in
     ap (λ x. take (length l - 1) l ++ (x ∷ [])) (sym e) ∙ sym (take-suc l (length l - 1) 0 i) ∙ ap (λ m. take m l) n ∙ take-length l
 
-pub written_read : (line : List ℕ) (e : Event) → line_read line ≡ Good e → (line_of e ≡ line) × T (in_range e)
+pub written_read : (line : List ℕ) (e : Event) → line_read line ≡ Ok e → (line_of e ≡ line) × T (in_range e)
 unfolding line_of
 written_read line e h = by (eqb (last_byte line) line_feed)
     (λ n. let f : last_byte line ≡ line_feed = eqb-true (last_byte line) line_feed n in
@@ -320,9 +320,9 @@ one_line e r = record { line = line_of e; reads = read-written e r; only = λ l 
 
 -- ---- The only refusal of a line is 14
 
-abbrev pub Fourteen : Decoded → Type 0
-Fourteen (Good e) = Unit {0}
-Fourteen (Refused f) = f.number ≡ 14
+abbrev pub Fourteen : Result Event Refusal → Type 0
+Fourteen (Ok e) = Unit {0}
+Fourteen (Err f) = f.number ≡ 14
 
 fields-fourteen : (t k : ℕ) (ws : List (List ℕ)) → Fourteen (read_fields t k ws)
 fields-fourteen t k ws = by (fit (limits k) ws)

@@ -1,31 +1,17 @@
 -- Laws for the functions that make a line: bytes put after it, one after the other.
 use Prim.Native.Nat.{ℕ, ◌+◌, ◌≤◌, ◌<◌}
 use native.Mathlib.Omega.{arith}
-use mathlib.Core.Path.{◌≡◌, refl, sym, ap, subst, ◌∙◌}
+use mathlib.Core.Path.{◌≡◌, refl, sym, ap, ◌∙◌}
 use mathlib.Core.List.{List, [], ◌∷◌, ◌++◌, append_assoc, append-nil, map}
-use lib.ListN.{length, take, length-append}
+use lib.ListN.{length, length-append}
 use borrow.Author.Tests.{le-leb, lt-leb}
 use Rattle.record.specs.declared.Event.{Event}
 use Rattle.record.specs.declared.Op.{Op}
 use Rattle.record.specs.Record.{kind, target, value}
-use Rattle.text.specs.declared.making.Line.{Line}
 use Rattle.decimal.specs.Decimal.{decimal}
+use Rattle.decimal.proofs.Decimals.{size-three}
 use Rattle.text.specs.Line.{space, line_feed, name, field_count, fields, words_of, spaced, line_of}
-use Rattle.text.specs.Steps.{contents, Longer, Holds, spaced_out}
-
--- nothing put after it; one thing and then another; the same bytes said otherwise
-pub longer-none : (l : Line) → Longer l [] l
-longer-none l = record { same = sym (append-nil (contents l)); size = omega arith }
-
-pub longer-both : {a b : List ℕ} (l m r : Line) → Longer l a m → Longer m b r → Longer l (a ++ b) r
-longer-both {a} {b} l m r p q =
-    record {
-      same = q.same ∙ ap (λ x. x ++ b) p.same ∙ append_assoc (contents l) a b;
-      size = omega (arith, p.size, q.size, length-append a b);
-    }
-
-pub longer-as : {a b : List ℕ} (l r : Line) → a ≡ b → Longer l a r → Longer l b r
-longer-as l r e p = subst (λ x. Longer l x r) e p
+use Rattle.text.specs.Steps.{spaced_out}
 
 -- ---- The numbers after the name
 
@@ -61,19 +47,17 @@ line-parts e =
     after w [] = sym (append-nil w)
     after w (n ∷ ns) = ap (λ r. w ++ (space ∷ r)) (after (decimal n) ns)
 
--- put after nothing, one by one
-pub line_made : (e : Event) (k : ℕ) (l l0 l1 l2 l3 l4 : Line)
-    → l.len ≡ 0
-    → Longer l (decimal e.thread) l0
-    → Longer l0 (space ∷ []) l1
-    → k ≡ kind e.op
-    → Longer l1 (name k) l2
-    → Longer l2 (spaced_out (fields e.op)) l3
-    → Longer l3 (line_feed ∷ []) l4
-    → l4.len ≤ 24
-    → Holds l4 (line_of e)
-line_made e k l l0 l1 l2 l3 l4 z p0 p1 q p2 p3 p4 w =
-    let named : Longer l1 (name (kind e.op)) l2 = longer-as l1 l2 (ap name q) p2 in
-    let all : Longer l (line_of e) l4 =
-    longer-as l l4 (sym (line-parts e)) (longer-both l l0 l4 p0 (longer-both l0 l1 l4 p1 (longer-both l1 l2 l4 named (longer-both l2 l3 l4 p3 p4)))) in
-    record { same = all.same ∙ ap (λ n. take n l.bytes ++ line_of e) z; size = omega (arith, all.size); within = w }
+-- put one after the other
+pub line-made : (e : Event) (a b d l : List ℕ) → a ≡ [] ++ decimal e.thread → b ≡ a ++ (space ∷ []) → d ≡ b ++ name (kind e.op) → l ≡ d ++ spaced_out (fields e.op) → l ++ (line_feed ∷ []) ≡ line_of e
+line-made e a b d l p q r s =
+    let n : List ℕ = name (kind e.op) in
+    let f : List ℕ = spaced_out (fields e.op) in
+    ap (λ x. x ++ (line_feed ∷ [])) (s ∙ ap (λ x. x ++ f) (r ∙ ap (λ x. x ++ n) (q ∙ ap (λ x. x ++ (space ∷ [])) p)))
+    ∙ append_assoc ((decimal e.thread ++ (space ∷ [])) ++ n) f (line_feed ∷ [])
+    ∙ append_assoc (decimal e.thread ++ (space ∷ [])) n (f ++ (line_feed ∷ []))
+    ∙ append_assoc (decimal e.thread) (space ∷ []) (n ++ (f ++ (line_feed ∷ [])))
+    ∙ sym (line-parts e)
+
+-- a thread and a space have at most four bytes, and with a name at most twelve
+pub begun-size : (t : ℕ) (a b : List ℕ) → t < 1000 → a ≡ [] ++ decimal t → b ≡ a ++ (space ∷ []) → length b ≤ 4
+begun-size t a b h p q = omega (arith, ap length (q ∙ ap (λ x. x ++ (space ∷ [])) p), length-append (decimal t) (space ∷ []), size-three t h)

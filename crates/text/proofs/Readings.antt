@@ -1,108 +1,121 @@
--- Laws for the functions that read a line: its words by the first space, and what each kind asks.
-use Prim.Native.Nat.{ℕ, suc, ◌+◌, ◌-◌, ◌≤◌, ◌<◌}
+-- Laws for the function that reads a line: the words that are left, and what each of them says.
+use Prim.Native.Nat.{ℕ, suc, ◌-◌, ◌≤◌, ◌<◌}
 use native.Mathlib.Omega.{arith}
-use mathlib.Core.Path.{◌≡◌, refl, sym, ap, ap₂, subst, ◌∙◌}
+use mathlib.Core.Path.{◌≡◌, refl, sym, ap, ap₂, ◌∙◌}
 use mathlib.Core.Logic.{◌≢◌}
-use mathlib.Core.Bool.{Bool, true, false, ◌&&◌, and-true, and-false}
-use mathlib.Core.List.{List, [], ◌∷◌}
-use lib.ListN.{length, get_or, take, drop}
-use lib.Seq.{take_all}
-use lib.Dec.{leb, ltb, eqb}
-use borrow.Author.Tests.{le-leb, lt-leb, leb-true, leb-false, ltb-true, ltb-false}
+use mathlib.Core.Bool.{Bool, true, false, cond, not, ◌&&◌}
+use mathlib.Core.List.{List, [], ◌∷◌, ◌++◌, append-nil}
+use lib.ListN.{length, get_or, length-append, get_or-append}
+use lib.Seq.{get_or_at}
+use lib.Dec.{leb, eqb}
+use borrow.Author.Tests.{le-leb, lt-leb, leb-true, leb-false, eqb-true}
+use denote.Ref.{Bor}
+use denote.Param.Members.{Mut}
+use Rattle.std.specs.declared.slice.Split.{Split}
+use Rattle.std.specs.Slice.Iter.{split_rest, split_done, split_callee, split_steps}
+use Rattle.std.specs.Fn.{ComputesKey}
+use Rattle.std.specs.List.{IsFirstMatchOrLen}
+use Rattle.std.specs.Bool.{MatchBool}
+use Rattle.std.specs.Prelude.{Option, Some, None, is_some, Result, Ok}
 use Rattle.lists.proofs.Tests.{by}
-use Rattle.record.specs.declared.Decoded.TheVariants.{Good}
-use Rattle.record.specs.declared.Op.TheVariants.{Yield}
+use Rattle.lists.proofs.Lists.{all_none, all_more}
+use Rattle.record.specs.declared.Event.{Event}
+use Rattle.record.specs.Faults.{Refusal}
 use Rattle.record.specs.Record.{target_limit, operation}
 use Rattle.decimal.specs.Decimal.{value_from, value_of, is_number}
-use Rattle.text.specs.Line.{space, words, glued, field_count, limits, fit, kind_named, formless, read_fields, read_operation, read_words}
-use Rattle.text.specs.Steps.{before, number_in}
-use Rattle.decimal.proofs.Decimals.{number-within, number_digits}
-use Rattle.text.proofs.Words.{words-cut, words-on, words-some, words-alone, digits-lack, named-low}
-use Rattle.text.proofs.Lines.{fields-good, fields-bad, operation-named, operation-none, operation-missing, words-good, words-bad}
+use Rattle.text.specs.Line.{space, line_feed, words, field_count, limits, fit, kind_named, formless, read_fields, read_operation, read_words, line_read}
+use Rattle.text.proofs.Words.{lacks, words-first, words-alone}
+use Rattle.text.proofs.Lines.{fields-good, fields-bad, operation-named, operation-none, operation-missing, words-good, words-bad, line-unended, line-of-body}
+use Rattle.text.proofs.Scans.{Number}
 
--- ---- Words by the first space
+-- ---- The words that are left
 
-pub before-le : (c : ℕ) (bs : List ℕ) → before c bs ≤ length bs
-unfolding before
-before-le c [] = omega arith
-before-le c (b ∷ bs) = by (eqb b c)
-    (λ e. rw (e, before) (omega arith))
-    (λ e. rw (e, before) (omega (arith, before-le c bs)))
+abbrev pub spaces : ℕ → Bool
+spaces c = eqb c space
 
--- no space: one word
-pub words-whole : (bs : List ℕ) → before space bs ≡ length bs → words bs ≡ bs ∷ []
-unfolding before words glued
-words-whole [] h = refl
-words-whole (b ∷ bs) h = by (eqb b space)
-    (λ e. let z : before space (b ∷ bs) ≡ 0 = rw (e, before) in absurd (omega arith))
-    (λ e. let s : before space (b ∷ bs) ≡ suc (before space bs) = rw (e, before) in
-    words-on b bs e ∙ ap (glued b) (words-whole bs (omega arith)))
+-- bytes that are no space, one by one
+lacks-each : (w : List ℕ) → ((k : ℕ) → k < length w → spaces (get_or w k 0) ≡ false) → lacks space w ≡ true
+lacks-each [] h = all_none (λ c. not (spaces c))
+lacks-each (c ∷ w) h = all_more (λ c. not (spaces c)) c w (ap not (h 0 (omega arith))) (lacks-each w (λ k l. h (suc k) (omega arith)))
 
--- a space: the bytes before it are the first word
-pub words-split : (bs : List ℕ) → before space bs < length bs → words bs ≡ take (before space bs) bs ∷ words (drop (before space bs + 1) bs)
-unfolding before words glued
-words-split [] h = absurd (omega arith)
-words-split (b ∷ bs) h = by (eqb b space)
-    (λ e. let z : before space (b ∷ bs) ≡ 0 = rw (e, before) in
-    words-cut b bs e ∙ sym (ap (λ n. take n (b ∷ bs) ∷ words (drop (n + 1) (b ∷ bs))) z))
-    (λ e. let s : before space (b ∷ bs) ≡ suc (before space bs) = rw (e, before) in
-    words-on b bs e ∙ ap (glued b) (words-split bs (omega arith))
-    ∙ sym (ap (λ n. take n (b ∷ bs) ∷ words (drop (n + 1) (b ∷ bs))) s
-    ∙ ap (λ m. (b ∷ take (before space bs) bs) ∷ words (drop m (b ∷ bs))) (on (before space bs))))
+abbrev pub left : {F : Type 0} → Split ℕ F → List (List ℕ)
+left s = cond (split_done s) [] (words (split_rest s))
+
+pub next-none : {F : Type 0} (s : Split ℕ F) → split_done s ≡ true → left s ≡ []
+next-none s h = ap (λ b. cond b [] (words (split_rest s))) h
+
+-- the word x is the next one, and those that t has left come after it
+module _ {F : Type 0} {g : Mut F (Bor ℕ × Unit {0}) Bool} where
+  pub next-word : (s t : Split ℕ F) (x : Bor (List ℕ)) → ComputesKey g spaces (split_callee s) → split_steps g s (Some x) t
+      → (left s ≡ x.now ∷ left t) × ComputesKey g spaces (split_callee t)
+  next-word s t x k h =
+      let f = h.2 spaces k in
+      (ap (λ b. cond b [] (words (split_rest s))) h.0 ∙ go (split_done t) h.1 f.1, f.0)
+    where
+      front : (rest : List ℕ) → split_rest s ≡ x.now ++ rest → IsFirstMatchOrLen spaces (split_rest s) (length x.now) → lacks space x.now ≡ true
+      front rest e f = lacks-each x.now (λ k l. ap spaces (sym (ap (λ b. get_or b k 0) e ∙ get_or-append x.now rest 0 k l)) ∙ f.0 k 0 (omega arith) l)
+
+      go : (b : Bool) → MatchBool b (split_rest s ≡ x.now) ((y : ℕ) × (split_rest s ≡ x.now ++ (y ∷ split_rest t)))
+          → IsFirstMatchOrLen spaces (split_rest s) (length x.now) → words (split_rest s) ≡ x.now ∷ cond b [] (words (split_rest t))
+      go true e f = ap words e ∙ words-alone x.now (front [] (e ∙ sym (append-nil x.now)) f)
+      go false (y, e) f =
+          let cut : spaces y ≡ true =
+          ap spaces (sym (ap (λ b. get_or b (length x.now) 0) e ∙ get_or_at x.now y (split_rest t) 0 (length x.now) refl)) ∙ f.1 (omega (arith, ap length e, length-append x.now (y ∷ split_rest t))) 0 in
+          ap words (e ∙ ap (λ c. x.now ++ (c ∷ split_rest t)) (eqb-true y space cut)) ∙ words-first x.now (split_rest t) (front (y ∷ split_rest t) e f)
+
+  pub more-words : (s t : Split ℕ F) (r : Option (Bor (List ℕ))) → ComputesKey g spaces (split_callee s) → split_steps g s r t → is_some r ≡ true → (w : List ℕ) × (left s ≡ w ∷ left t)
+  more-words s t None k h e = let no : ◌≡◌ {A = ℕ} 0 1 = cc e in absurd (omega arith)
+  more-words s t (Some x) k h e = (x.now, (next-word s t x k h).0)
+
+pub no-words : {F : Type 0} (g : Mut F (Bor ℕ × Unit {0}) Bool) (s t : Split ℕ F) (r : Option (Bor (List ℕ))) → split_steps g s r t → is_some r ≡ false → left s ≡ []
+no-words g s t None h e = next-none s h.0
+no-words g s t (Some x) h e = let no : ◌≡◌ {A = ℕ} 0 1 = cc e in absurd (omega arith)
+
+-- ---- The line, by its last byte
+
+pub last-feed : (line body : List ℕ) (c : ℕ) → line ≡ body ++ (c ∷ []) → c ≡ line_feed → line_read line ≡ read_words (words body)
+last-feed line body c e h = ap line_read (e ∙ ap (λ x. body ++ (x ∷ [])) h) ∙ line-of-body body
+
+pub last-other : (line body : List ℕ) (c : ℕ) → line ≡ body ++ (c ∷ []) → c ≢ line_feed → line_read line ≡ formless
+last-other line body c e h =
+    line-unended line (λ f. h (sym (ap (λ n. get_or line n 0) size ∙ ap (λ b. get_or b (length body) 0) e ∙ get_or_at body c [] 0 (length body) refl) ∙ f))
   where
-    on : (n : ℕ) → suc n + 1 ≡ suc (n + 1)
-    on n = omega arith
+    size : length line - 1 ≡ length body
+    size = omega (arith, ap length e, length-append body (c ∷ []))
 
--- ---- A number by its code
+-- ---- The thread and the kind, word by word
 
-pub code-none : (limit : ℕ) (w : List ℕ) → number_in limit w ≡ 0 → is_number limit w ≡ false
-unfolding number_in
-code-none limit w h = by (is_number limit w) (λ e. let s : number_in limit w ≡ suc (value_of w) = rw (e, number_in) in absurd (omega arith)) (λ e. e)
+pub thread-bad : (ws rest : List (List ℕ)) (w : List ℕ) → ws ≡ w ∷ rest → is_number 15 w ≡ false → read_words ws ≡ formless
+thread-bad ws rest w e h = ap read_words e ∙ words-bad w rest h
 
-pub record Coded (limit : ℕ) (w : List ℕ) (n : ℕ) : Type 0 where
-  pub is : is_number limit w ≡ true
-  pub worth : n - 1 ≡ value_of w
-  pub low : n - 1 ≤ limit
+pub thread-good : (ws rest : List (List ℕ)) (w : List ℕ) (t : ℕ) → ws ≡ w ∷ rest → Number 15 w t → read_words ws ≡ read_operation t rest
+thread-good ws rest w t e n = ap read_words e ∙ words-good w rest n.is ∙ ap (λ t. read_operation t rest) n.worth
 
-pub code-some : (limit : ℕ) (w : List ℕ) (n : ℕ) → n ≡ number_in limit w → n ≢ 0 → Coded limit w n
-unfolding number_in
-code-some limit w n h z = by (is_number limit w)
-    (λ e. let s : number_in limit w ≡ suc (value_of w) = rw (e, number_in) in
-    record { is = e; worth = omega arith; low = omega (arith, number-within limit w e) })
-    (λ e. let s : number_in limit w ≡ 0 = rw (e, number_in) in absurd (z (h ∙ s)))
+pub kind-missing : (t : ℕ) (ws : List (List ℕ)) → ws ≡ [] → read_operation t ws ≡ formless
+kind-missing t ws e = ap (read_operation t) e ∙ operation-missing t
 
--- ---- What each kind asks
+pub kind-bad : (t : ℕ) (ws rest : List (List ℕ)) (w : List ℕ) → ws ≡ w ∷ rest → kind_named w ≡ 0 → read_operation t ws ≡ formless
+kind-bad t ws rest w e h = ap (read_operation t) e ∙ operation-none t w rest h
 
--- one limit: the bytes are one word, and it is a number
-pub fit-one : (m : ℕ) (w : List ℕ) → fit (m ∷ []) (words w) ≡ is_number m w
-unfolding fit
-fit-one m w = by (is_number m w)
-    (λ e. ap (fit (m ∷ [])) (words-alone w (digits-lack space w (omega arith) (number_digits m w e))) ∙ and-true (is_number m w))
-    (λ e. none e (ltb (before space w) (length w)) refl)
-  where
-    more : (b : Bool) (ws : List (List ℕ)) → 1 ≤ length ws → (b && fit [] ws) ≡ false
-    more true [] l = absurd (omega arith)
-    more false [] l = absurd (omega arith)
-    more true (v ∷ ws) l = refl
-    more false (v ∷ ws) l = refl
+pub kind-good : (t k : ℕ) (ws rest : List (List ℕ)) (w : List ℕ) → ws ≡ w ∷ rest → k ≡ kind_named w → 1 ≤ k → read_operation t ws ≡ read_fields t k rest
+kind-good t k ws rest w e h l = ap (read_operation t) e ∙ operation-named t k w rest (sym h) l
 
-    none : is_number m w ≡ false → (b : Bool) → ltb (before space w) (length w) ≡ b → fit (m ∷ []) (words w) ≡ is_number m w
-    none e true l =
-        ap (fit (m ∷ [])) (words-split w (ltb-true (before space w) (length w) l))
-        ∙ more (is_number m (take (before space w) w)) (words (drop (before space w + 1) w)) (words-some (drop (before space w + 1) w)) ∙ sym e
-    none e false l =
-        let h : before space w ≡ length w = omega (arith, ltb-false (before space w) (length w) l, before-le space w) in
-        ap (fit (m ∷ [])) (words-whole w h) ∙ and-true (is_number m w)
+-- the words of a line that has just been taken apart
+pub begun : {F : Type 0} (line body : List ℕ) (s : Split ℕ F) → line_read line ≡ read_words (words body) → split_rest s ≡ body → split_done s ≡ false → line_read line ≡ read_words (left s)
+begun line body s a e d = a ∙ sym (ap₂ (λ b r. read_words (cond b [] (words r))) d e)
 
--- a number is one word
-number-alone : (m : ℕ) (w : List ℕ) → is_number m w ≡ true → words w ≡ w ∷ []
-number-alone m w e = words-alone w (digits-lack space w (omega arith) (number_digits m w e))
+-- ---- What each kind has
 
-limits-two : (k : ℕ) → k ≤ 2 → limits k ≡ 255 ∷ 65535 ∷ []
-unfolding limits field_count target_limit
+by_kind : {C : Type 0} (k : ℕ) → (k ≤ 2 → C) → (2 < k → k ≤ 9 → C) → (9 < k → C) → C
+by_kind k two one none = by (leb k 2)
+    (λ e. two (leb-true k 2 e))
+    (λ e. by (leb k 9) (λ f. one (leb-false k 2 e) (leb-true k 9 f)) (λ f. none (leb-false k 9 f)))
+
+limits-two : (k : ℕ) → k ≤ 2 → limits k ≡ target_limit k ∷ 65535 ∷ []
+unfolding limits field_count
 limits-two k h = simp (le-leb k 2 h)
 
-limits-one : (k : ℕ) → 3 ≤ k → k ≤ 9 → limits k ≡ target_limit k ∷ []
+limits-one : (k : ℕ) → 2 < k → k ≤ 9 → limits k ≡ target_limit k ∷ []
 unfolding limits field_count
 limits-one k l h = simp (lt-leb k 2 l, le-leb k 9 h)
 
@@ -110,117 +123,82 @@ limits-none : (k : ℕ) → 9 < k → limits k ≡ []
 unfolding limits field_count
 limits-none k h = simp (lt-leb k 2 (omega arith), lt-leb k 9 h)
 
--- kinds 1 and 2: two words
-module _ (t k : ℕ) (bs : List ℕ) (low : k ≤ 2) where
-  two : (b : Bool) → fit (255 ∷ 65535 ∷ []) (words bs) ≡ b → fit (limits k) (words bs) ≡ b
-  two b h = ap (λ ms. fit ms (words bs)) (limits-two k low) ∙ h
+-- a number that the kinds below `low` have: of the words `ws` it is the first, and `rest` come after it
+pub record Field (k low limit : ℕ) (ws rest : List (List ℕ)) (x : ℕ) : Type 0 where
+  pub taken : k < low → (w : List ℕ) × (ws ≡ w ∷ rest) × Number limit w x
+  pub none : low ≤ k → (ws ≡ rest) × (x ≡ 0)
 
-  pub access-alone : before space bs ≡ length bs → read_fields t k (words bs) ≡ formless
+pub field-taken : (k low limit : ℕ) (ws rest : List (List ℕ)) (w : List ℕ) (x : ℕ) → k < low → ws ≡ w ∷ rest → Number limit w x → Field k low limit ws rest x
+field-taken k low limit ws rest w x l e n = record { taken = λ _. (w, e, n); none = λ h. absurd (omega arith) }
+
+pub field-none : (k low limit : ℕ) (ws rest : List (List ℕ)) (x : ℕ) → low ≤ k → ws ≡ rest → x ≡ 0 → Field k low limit ws rest x
+field-none k low limit ws rest x l e z = record { taken = λ h. absurd (omega arith); none = λ _. (e, z) }
+
+module _ (t k : ℕ) (ws : List (List ℕ)) where
+  -- without a target that fits
+  unfit : (w : List (List ℕ)) → ws ≡ w → ((ms : List ℕ) → fit (target_limit k ∷ ms) w ≡ false) → k < 10 → read_fields t k ws ≡ formless
+  unfit w e bad l = fields-bad t k ws (by_kind k
+      (λ a. ap₂ fit (limits-two k a) e ∙ bad (65535 ∷ []))
+      (λ a b. ap₂ fit (limits-one k a b) e ∙ bad [])
+      (λ a. absurd (omega arith)))
+
+  pub target-missing : ws ≡ [] → k < 10 → read_fields t k ws ≡ formless
   unfolding fit
-  access-alone h = fields-bad t k (words bs) (two false (ap (fit (255 ∷ 65535 ∷ [])) (words-whole bs h) ∙ and-false (is_number 255 bs)))
+  target-missing e l = unfit [] e (λ ms. refl) l
 
-  module _ (n : ℕ) (h : n ≡ before space bs) (l : n < length bs) where
-    split : words bs ≡ take n bs ∷ words (drop (n + 1) bs)
-    split = words-split bs (subst (λ m. m < length bs) h l) ∙ sym (ap (λ m. take m bs ∷ words (drop (m + 1) bs)) h)
+  pub target-bad : (w : List ℕ) (rest : List (List ℕ)) → ws ≡ w ∷ rest → is_number (target_limit k) w ≡ false → k < 10 → read_fields t k ws ≡ formless
+  unfolding fit
+  target-bad w rest e h l = unfit (w ∷ rest) e (λ ms. ap (λ b. b && fit ms rest) h) l
 
-    both : (a b : Bool) → is_number 255 (take n bs) ≡ a → is_number 65535 (drop (n + 1) bs) ≡ b → fit (255 ∷ 65535 ∷ []) (words bs) ≡ (a && b)
+  module _ (rest : List (List ℕ)) (x : ℕ) (f : Field k 10 (target_limit k) ws rest x) where
+    value-unfit : (w : List (List ℕ)) → rest ≡ w → fit (65535 ∷ []) w ≡ false → k < 3 → read_fields t k ws ≡ formless
     unfolding fit
-    both a b p q = ap (fit (255 ∷ 65535 ∷ [])) split ∙ ap₂ (λ x y. x && y) p (fit-one 65535 (drop (n + 1) bs) ∙ q)
+    value-unfit w e bad l =
+        let a = f.taken (omega arith) in
+        fields-bad t k ws (ap₂ fit (limits-two k (omega arith)) (a.1 ∙ ap (λ r. a.0 ∷ r) e) ∙ ap₂ (λ p q. p && q) a.2.is bad)
 
-    pub access-first : number_in 255 (take n bs) ≡ 0 → read_fields t k (words bs) ≡ formless
-    access-first z = fields-bad t k (words bs) (two false (both false (is_number 65535 (drop (n + 1) bs)) (code-none 255 (take n bs) z) refl))
-
-    pub access-second : number_in 65535 (drop (n + 1) bs) ≡ 0 → read_fields t k (words bs) ≡ formless
-    access-second z =
-        fields-bad t k (words bs) (two false (both (is_number 255 (take n bs)) false refl (code-none 65535 (drop (n + 1) bs) z) ∙ and-false (is_number 255 (take n bs))))
-
-    pub access-good : (x v : ℕ) → x ≡ number_in 255 (take n bs) → x ≢ 0 → v ≡ number_in 65535 (drop (n + 1) bs) → v ≢ 0
-        → read_fields t k (words bs) ≡ Good (record { thread = t; op = operation k (x - 1) (v - 1) })
-    access-good x v p y q z =
-        let a : Coded 255 (take n bs) x = code-some 255 (take n bs) x p y in
-        let b : Coded 65535 (drop (n + 1) bs) v = code-some 65535 (drop (n + 1) bs) v q z in
-        let ws : words bs ≡ take n bs ∷ drop (n + 1) bs ∷ [] = split ∙ ap (λ r. take n bs ∷ r) (number-alone 65535 (drop (n + 1) bs) b.is) in
-        fields-good t k (words bs) (two true (both true true a.is b.is))
-        ∙ ap (λ r. Good (record { thread = t; op = operation k (value_of (get_or r 0 [])) (value_of (get_or r 1 [])) })) ws
-        ∙ sym (ap₂ (λ i j. Good (record { thread = t; op = operation k i j })) a.worth b.worth)
-
--- kinds 3 to 9: one word
-module _ (t k : ℕ) (bs : List ℕ) (low : 3 ≤ k) (high : k ≤ 9) (m : ℕ) (e : m ≡ target_limit k) where
-  one : (b : Bool) → is_number m bs ≡ b → fit (limits k) (words bs) ≡ b
-  one b h = ap (λ ms. fit ms (words bs)) (limits-one k low high ∙ ap (λ i. i ∷ []) (sym e)) ∙ fit-one m bs ∙ h
-
-  pub single-bad : number_in m bs ≡ 0 → read_fields t k (words bs) ≡ formless
-  single-bad z = fields-bad t k (words bs) (one false (code-none m bs z))
-
-  pub single-good : (x : ℕ) → x ≡ number_in m bs → x ≢ 0 → read_fields t k (words bs) ≡ Good (record { thread = t; op = operation k (x - 1) 0 })
-  unfolding value_from
-  single-good x p y =
-      let a : Coded m bs x = code-some m bs x p y in
-      fields-good t k (words bs) (one true a.is)
-      ∙ ap (λ r. Good (record { thread = t; op = operation k (value_of (get_or r 0 [])) (value_of (get_or r 1 [])) })) (number-alone m bs a.is)
-      ∙ sym (ap (λ i. Good (record { thread = t; op = operation k i 0 })) a.worth)
-
--- the name, and what comes after it
-module _ (t : ℕ) (bs : List ℕ) (n : ℕ) (h : n ≡ before space bs) where
-  words-begin : (C : List (List ℕ) → Type 0) → ((ws : List (List ℕ)) → C (take n bs ∷ ws)) → C (words bs)
-  words-begin C f = go (ltb n (length bs)) refl
-    where
-      go : (b : Bool) → ltb n (length bs) ≡ b → C (words bs)
-      go true l = subst C (sym (split 0 0 bs (omega arith) n h (ltb-true n (length bs) l))) (f (words (drop (n + 1) bs)))
-      go false l =
-          let e : n ≡ length bs = omega (arith, ltb-false n (length bs) l, before-le space bs) in
-          subst C (sym (words-whole bs (sym h ∙ e) ∙ ap (λ w. w ∷ []) (sym (take_all n bs (omega arith))))) (f [])
-
-  pub operation-unnamed : kind_named (take n bs) ≡ 0 → read_operation t (words bs) ≡ formless
-  operation-unnamed z = words-begin (λ ws. read_operation t ws ≡ formless) (λ ws. operation-none t (take n bs) ws z)
-
-  -- where nothing comes after the name
-  module _ (k : ℕ) (e : k ≡ kind_named (take n bs)) (some : k ≢ 0) (all : n ≡ length bs) where
-    alone : read_operation t (words bs) ≡ read_fields t k []
-    alone =
-        ap (read_operation t) (words-whole bs (sym h ∙ all) ∙ ap (λ w. w ∷ []) (sym (take_all n bs (omega arith))))
-        ∙ operation-named t k (take n bs) [] (sym e) (omega arith)
-
-    pub operation-yield : k ≡ 10 → read_operation t (words bs) ≡ Good (record { thread = t; op = Yield })
-    unfolding fit value_from operation
-    operation-yield q =
-        alone
-        ∙ fields-good t k [] (ap (λ ms. fit ms []) (limits-none k (omega arith)))
-        ∙ ap (λ j. Good (record { thread = t; op = operation j 0 0 })) q
-
-    pub operation-short : k ≢ 10 → read_operation t (words bs) ≡ formless
+    pub value-missing : rest ≡ [] → k < 3 → read_fields t k ws ≡ formless
     unfolding fit
-    operation-short q = alone ∙ fields-bad t k [] (by (leb k 2)
-        (λ l. ap (λ ms. fit ms []) (limits-two k (leb-true k 2 l)))
-        (λ l. ap (λ ms. fit ms []) (limits-one k (leb-false k 2 l) (omega (arith, named-low (take n bs) k (sym e))))))
+    value-missing e l = value-unfit [] e refl l
 
-  -- where something does
-  module _ (k : ℕ) (e : k ≡ kind_named (take n bs)) (some : k ≢ 0) (l : n < length bs) where
-    pub operation-more : read_operation t (words bs) ≡ read_fields t k (words (drop (n + 1) bs))
-    operation-more = ap (read_operation t) (split 0 0 bs (omega arith) n h l) ∙ operation-named t k (take n bs) (words (drop (n + 1) bs)) (sym e) (omega arith)
-
-    pub operation-long : 9 < k → read_operation t (words bs) ≡ formless
+    pub value-bad : (w : List ℕ) (more : List (List ℕ)) → rest ≡ w ∷ more → is_number 65535 w ≡ false → k < 3 → read_fields t k ws ≡ formless
     unfolding fit
-    operation-long q = operation-more ∙ fields-bad t k (words (drop (n + 1) bs)) (ap (λ ms. fit ms (words (drop (n + 1) bs))) (limits-none k q) ∙ none (words (drop (n + 1) bs)) (words-some (drop (n + 1) bs)))
-      where
-        none : (ws : List (List ℕ)) → 1 ≤ length ws → fit [] ws ≡ false
-        none [] z = absurd (omega arith)
-        none (w ∷ ws) z = refl
+    value-bad w more e h l = value-unfit (w ∷ more) e (ap (λ b. b && fit [] more) h) l
 
--- the thread, and what comes after it
-module _ (bs : List ℕ) (n : ℕ) (h : n ≡ before space bs) where
-  pub thread-bad : number_in 15 (take n bs) ≡ 0 → read_words (words bs) ≡ formless
-  thread-bad z = words-begin 0 bs n h (λ ws. read_words ws ≡ formless) (λ ws. words-bad (take n bs) ws (code-none 15 (take n bs) z))
+    module _ (end : List (List ℕ)) (v : ℕ) (q : Field k 3 65535 rest end v) where
+      fits : (b : Bool) → fit [] end ≡ b → fit (limits k) ws ≡ b
+      unfolding fit
+      fits b h = by_kind k
+          (λ a. let p = f.taken (omega arith) in
+          let r = q.taken (omega arith) in
+          ap₂ fit (limits-two k a) (p.1 ∙ ap (λ y. p.0 ∷ y) r.1) ∙ ap₂ (λ i j. i && (j && fit [] end)) p.2.is r.2.is ∙ h)
+          (λ a c. let p = f.taken (omega arith) in
+          ap₂ fit (limits-one k a c) (p.1 ∙ ap (λ y. p.0 ∷ y) (q.none a).0) ∙ ap (λ i. i && fit [] end) p.2.is ∙ h)
+          (λ a. ap₂ fit (limits-none k a) ((f.none a).0 ∙ (q.none (omega arith)).0) ∙ h)
 
-  module _ (x : ℕ) (p : x ≡ number_in 15 (take n bs)) (y : x ≢ 0) where
-    pub thread-alone : n ≡ length bs → read_words (words bs) ≡ formless
-    thread-alone all =
-        let a : Coded 15 (take n bs) x = code-some 15 (take n bs) x p y in
-        ap read_words (words-whole bs (sym h ∙ all) ∙ ap (λ w. w ∷ []) (sym (take_all n bs (omega arith))))
-        ∙ words-good (take n bs) [] a.is ∙ operation-missing (value_of (take n bs))
+      pub too-many : (w : List ℕ) (more : List (List ℕ)) → end ≡ w ∷ more → read_fields t k ws ≡ formless
+      unfolding fit
+      too-many w more e = fields-bad t k ws (fits false (ap (fit []) e))
 
-    pub thread-good : n < length bs → read_words (words bs) ≡ read_operation (x - 1) (words (drop (n + 1) bs))
-    thread-good l =
-        let a : Coded 15 (take n bs) x = code-some 15 (take n bs) x p y in
-        ap read_words (split 0 0 bs (omega arith) n h l)
-        ∙ words-good (take n bs) (words (drop (n + 1) bs)) a.is ∙ ap (λ t. read_operation t (words (drop (n + 1) bs))) (sym a.worth)
+      pub fields-read : end ≡ [] → read_fields t k ws ≡ Ok (record { thread = t; op = operation k x v })
+      unfolding fit value_from
+      fields-read e =
+          fields-good t k ws (fits true (ap (fit []) e))
+          ∙ by_kind k
+          (λ a. let p = f.taken (omega arith) in
+          let r = q.taken (omega arith) in
+          worth (p.0 ∷ r.0 ∷ []) (p.1 ∙ ap (λ y. p.0 ∷ y) (r.1 ∙ ap (λ y. r.0 ∷ y) e)) p.2.worth r.2.worth)
+          (λ a c. let p = f.taken (omega arith) in
+          worth (p.0 ∷ []) (p.1 ∙ ap (λ y. p.0 ∷ y) ((q.none a).0 ∙ e)) p.2.worth (zero-worth ∙ sym (q.none a).1))
+          (λ a. worth [] ((f.none a).0 ∙ (q.none (omega arith)).0 ∙ e) (zero-worth ∙ sym (f.none a).1) (zero-worth ∙ sym (q.none (omega arith)).1))
+        where
+          zero-worth : value_of [] ≡ 0
+          zero-worth = refl
+
+          read : ℕ → ℕ → ℕ → Result Event Refusal
+          read k x v = Ok (record { thread = t; op = operation k x v })
+
+          worth : (r : List (List ℕ)) → ws ≡ r → value_of (get_or r 0 []) ≡ x → value_of (get_or r 1 []) ≡ v
+              → read k (value_of (get_or ws 0 [])) (value_of (get_or ws 1 [])) ≡ read k x v
+          worth r z y u =
+              ap (λ r. read k (value_of (get_or r 0 [])) (value_of (get_or r 1 []))) z ∙ ap₂ (read k) y u

@@ -1,60 +1,68 @@
 -- Laws for the passes over whole files: the first part and then the others, and what is written after what is written.
-use Prim.Native.Nat.{ℕ, suc, ◌+◌, ◌-◌, ◌/◌, ◌≤◌, ◌<◌}
+use Prim.Native.Nat.{ℕ, zero, suc, ◌+◌, ◌-◌, ◌/◌, ◌≤◌, ◌<◌, min}
 use native.Mathlib.Omega.{arith}
 use native.Mathlib.Numerals.{add-one}
-use mathlib.Core.Path.{◌≡◌, refl, sym, ap, ap₂, ◌∙◌}
-use mathlib.Core.Logic.{◌≢◌}
-use mathlib.Core.Bool.{true, false, cond}
+use mathlib.Core.Path.{◌≡◌, refl, sym, ap, ap₂, subst, ◌∙◌}
+use mathlib.Core.Bool.{Bool, true, false, cond}
 use mathlib.Core.List.{List, [], ◌∷◌, ◌++◌, append_assoc, append-nil}
-use lib.ListN.{length, get_or, take-append-drop, take, drop, length-append, length-take, length-drop, drop_of_length-le}
-use lib.Seq.{drop-cons, drop-drop, take_at, drop_at, length-take-le}
-use lib.Dec.{eqb}
-use borrow.Author.Tests.{le-leb, lt-leb, eq-eqb, ne_eqb}
+use lib.ListN.{length, get_or, take-append-drop, take, drop, length-append, length-drop}
+use lib.Seq.{drop-drop, take_at, drop_at, take-append_seam, drop-append_seam, length-take-le}
+use lib.Dec.{eqb, ltb}
+use borrow.Author.Tests.{le-leb, lt-leb, ltb-true, ltb-false}
+use Rattle.std.specs.Prelude.{Result, Ok, Err, count_by}
+use Rattle.std.specs.List.{IsFirstMatchOrLen}
+use Rattle.std.proofs.lemmas.List.Recursion.{is_count_by}
+use borrow.Rule.Slice.PartMut.{put_mid}
+use denote.Ref.{Bor}
+use denote.Param.Members.{Mut}
+use Rattle.std.specs.declared.slice.SplitInclusive.{SplitInclusive}
+use Rattle.std.specs.Slice.Iter.{split_inclusive_rest, split_inclusive_callee}
+use Rattle.std.specs.Fn.{ComputesKey}
 use Rattle.lists.specs.Lists.{keep, each, over}
 use Rattle.lists.proofs.Tests.{by}
+use Rattle.lists.proofs.Places.{rest-whole, put-over}
 use Rattle.lists.proofs.Lists.{keep-true, keep-false, each_append}
 use Rattle.record.specs.declared.Event.{Event}
-use Rattle.record.specs.declared.Refusal.{Refusal}
-use Rattle.record.specs.declared.Decoded.{Decoded}
-use Rattle.record.specs.declared.Decoded.TheVariants.{Good, Refused}
+use Rattle.record.specs.declared.Refusal.{Refusal as Given}
+use Rattle.record.specs.Faults.{Refusal}
+use Rattle.record.specs.Answers.{number, refusal_of, told}
 use Rattle.record.specs.Record.{encoded, encoded_over, encoded_size, records, records_of}
 use Rattle.record.proofs.Laws.{encoded-over, size-over, length-encoded}
-use Rattle.text.specs.declared.making.Line.{Line}
 use Rattle.text.specs.Line.{line_feed, glued, line_of, line_over, line_room}
 use Rattle.text.specs.File.{first_refused, found, events, feeds, lines}
-use Rattle.text.specs.Steps.{before, line_size, LineEnd, fault_number, part_bytes, all_bytes, Holds}
+use Rattle.text.specs.Steps.{part_bytes, all_bytes}
 use Rattle.text.proofs.Words.{lines_cut, lines-on}
 use Rattle.text.proofs.Files.{first_good, first-refused}
 
 -- ---- Line feeds
 
-pub feeds-here : (text : List ℕ) (i : ℕ) → i < length text → get_or text i 0 ≡ line_feed → feeds (drop i text) ≡ 1 + feeds (drop (i + 1) text)
-unfolding feeds
-feeds-here text i l h =
-    ap feeds (drop-cons text i 0 l)
-    ∙ ap length (keep-true (λ c. eqb c line_feed) (get_or text i 0) (drop (suc i) text) (eq-eqb (get_or text i 0) line_feed h))
-    ∙ omega (arith, ap (λ n. feeds (drop n text)) (add-one i))
-
-pub feeds-other : (text : List ℕ) (i : ℕ) → i < length text → (get_or text i 0 ≡ line_feed → ⊥) → feeds (drop i text) ≡ feeds (drop (i + 1) text)
-unfolding feeds
-feeds-other text i l h =
-    ap feeds (drop-cons text i 0 l)
-    ∙ ap length (keep-false (λ c. eqb c line_feed) (get_or text i 0) (drop (suc i) text) (ne_eqb (get_or text i 0) line_feed h))
-    ∙ ap (λ n. feeds (drop n text)) (sym (add-one i))
-
-pub feeds-end : (text : List ℕ) (i : ℕ) → length text ≤ i → feeds (drop i text) ≡ 0
+pub feeds-counted : (text : List ℕ) → count_by (λ c. eqb c line_feed) text ≡ feeds text
 unfolding feeds keep
-feeds-end text i l = ap feeds (drop_of_length-le text l)
+feeds-counted text = sym (is_count_by feeds (λ c. eqb c line_feed) refl step text)
+  where
+    step : (c : ℕ) (text : List ℕ) → feeds (c ∷ text) ≡ cond (eqb c line_feed) (1 + feeds text) (feeds text)
+    step c text = by (eqb c line_feed)
+        (λ e. rw e (omega (arith, ap length (keep-true (λ c. eqb c line_feed) c text e))))
+        (λ e. rw e (omega (arith, ap length (keep-false (λ c. eqb c line_feed) c text e))))
 
 -- ---- The first line, and the others
 
+-- how many bytes stand before the first line feed; all where there is none
+unfoldable pub before : List ℕ → ℕ
+before [] = 0
+before (b ∷ bs) = elim (eqb b line_feed) [ true ↦ 0 | false ↦ suc (before bs) ]
+
+-- how many bytes the first line has, with its line feed
+unfoldable pub line_size : List ℕ → ℕ
+line_size bs = min (before bs + 1) (length bs)
+
 pub size-cut : (c : ℕ) (bs : List ℕ) → eqb c line_feed ≡ true → line_size (c ∷ bs) ≡ 1
 unfolding line_size before
-size-cut c bs e = let z : before line_feed (c ∷ bs) ≡ 0 = rw (e, before) in omega arith
+size-cut c bs e = let z : before (c ∷ bs) ≡ 0 = rw (e, before) in omega arith
 
 pub size-on : (c : ℕ) (bs : List ℕ) → eqb c line_feed ≡ false → line_size (c ∷ bs) ≡ suc (line_size bs)
 unfolding line_size before
-size-on c bs e = let z : before line_feed (c ∷ bs) ≡ suc (before line_feed bs) = rw (e, before) in omega arith
+size-on c bs e = let z : before (c ∷ bs) ≡ suc (before bs) = rw (e, before) in omega arith
 
 pub lines-begin : (bs : List ℕ) → 0 < length bs → lines bs ≡ take (line_size bs) bs ∷ lines (drop (line_size bs) bs)
 unfolding lines glued line_size before
@@ -67,25 +75,42 @@ lines-begin (c ∷ bs) l = by (eqb c line_feed)
     more [] h = refl
     more (b ∷ bs) h = ap (glued c) (h (omega arith))
 
--- the first line ends at n, past its line feed, or with the text
-pub end-feed : (text : List ℕ) (at n : ℕ) → at < length text → n ≡ before line_feed (drop at text) → n < length text - at → LineEnd text at (at + n + 1)
+-- where the first line feed is known
+before-here : (bs : List ℕ) (i : ℕ) → i < length bs → ((k : ℕ) → k < i → eqb (get_or bs k 0) line_feed ≡ false) → eqb (get_or bs i 0) line_feed ≡ true → before bs ≡ i
+unfolding before
+before-here [] i l none here = absurd (omega arith)
+before-here (b ∷ bs) zero l none here = rw (here, before)
+before-here (b ∷ bs) (suc i) l none here = rw (none 0 (omega arith), before) (ap suc (before-here bs i (omega arith) (λ k h. none (suc k) (omega arith)) here))
+
+before-none : (bs : List ℕ) → ((k : ℕ) → k < length bs → eqb (get_or bs k 0) line_feed ≡ false) → before bs ≡ length bs
+unfolding before
+before-none [] none = refl
+before-none (b ∷ bs) none = rw (none 0 (omega arith), before) (ap suc (before-none bs (λ k h. none (suc k) (omega arith))))
+
+-- the bytes to the first line feed are the first line
+pub lines-next : (bs x rest : List ℕ) (i : ℕ) → bs ≡ x ++ rest → 0 < length bs → length x ≡ min (i + 1) (length bs) → IsFirstMatchOrLen (λ c. eqb c line_feed) bs i → lines bs ≡ x ∷ lines rest
 unfolding line_size
-end-feed text at n l e h = record { size = omega (arith, length-drop at text); later = omega arith; within = omega arith }
+lines-next bs x rest i e some n f =
+    lines-begin bs some ∙ ap (λ m. take m bs ∷ lines (drop m bs)) size
+    ∙ ap₂ (λ p q. p ∷ lines q) (ap (take (length x)) e ∙ take-append_seam x rest) (ap (drop (length x)) e ∙ drop-append_seam x rest)
+  where
+    size : line_size bs ≡ length x
+    size = by (ltb i (length bs))
+        (λ l. let h : i < length bs = ltb-true i (length bs) l in
+        omega (arith, before-here bs i h (λ k b. f.0 k 0 (omega arith) b) (f.1 h 0)))
+        (λ l. omega (arith, ltb-false i (length bs) l, before-none bs (λ k b. f.0 k 0 (omega arith) (omega (arith, ltb-false i (length bs) l)))))
 
-pub end-text : (text : List ℕ) (at n : ℕ) → at < length text → n ≡ before line_feed (drop at text) → length text - at ≤ n → LineEnd text at (length text)
-unfolding line_size
-end-text text at n l e h = record { size = omega (arith, length-drop at text); later = l; within = omega arith }
+-- as they come
+pub line-next : {F : Type 0} {g : Mut F (Bor ℕ × Unit {0}) Bool} (s t : SplitInclusive ℕ F) (x : Bor (List ℕ)) → ComputesKey g (λ c. eqb c line_feed) (split_inclusive_callee s)
+    → (split_inclusive_rest s ≡ x.now ++ split_inclusive_rest t) × ((i : ℕ) × (length x.now ≡ min (i + 1) (length (split_inclusive_rest s)))
+    × ((p : ℕ → Bool) → ComputesKey g p (split_inclusive_callee s) → ComputesKey g p (split_inclusive_callee t) × IsFirstMatchOrLen p (split_inclusive_rest s) i)) × (0 < length (split_inclusive_rest s))
+    → lines (split_inclusive_rest s) ≡ x.now ∷ lines (split_inclusive_rest t)
+line-next s t x k h = lines-next (split_inclusive_rest s) x.now (split_inclusive_rest t) h.1.0 h.0 h.2 h.1.1 (h.1.2 (λ c. eqb c line_feed) k).1
 
-pub lines_at : (text : List ℕ) (at r : ℕ) → LineEnd text at r → lines (drop at text) ≡ take (r - at) (drop at text) ∷ lines (drop r text)
-lines_at text at r e =
-    let n : at + (r - at) ≡ r = omega (arith, e.later) in
-    lines-begin (drop at text) (omega (arith, length-drop at text, e.later, e.within))
-    ∙ sym (ap (λ n. take n (drop at text) ∷ lines (drop n (drop at text))) e.size)
-    ∙ ap (λ b. take (r - at) (drop at text) ∷ lines b) (drop-drop (r - at) at text ∙ ap (λ m. drop m text) n)
-
-pub lines_end : (text : List ℕ) (at : ℕ) → length text ≤ at → lines (drop at text) ≡ []
+pub lines-none : (bs : List ℕ) → length bs ≡ 0 → lines bs ≡ []
 unfolding lines
-lines_end text at l = ap lines (drop_of_length-le text l)
+lines-none [] e = refl
+lines-none (b ∷ bs) e = absurd (omega arith)
 
 -- ---- The first record, and the others
 
@@ -94,52 +119,45 @@ unfolding records
 records-begin bs l =
     let n : length bs / 8 ≡ suc (length (drop 8 bs) / 8) = omega (arith, length-drop 8 bs) in ap (λ k. records k bs) n
 
-pub records-at : (input : List ℕ) (at : ℕ) → at + 8 ≤ length input → records_of (drop at input) ≡ take (at + 8 - at) (drop at input) ∷ records_of (drop (at + 8) input)
-records-at input at l =
-    let n : at + 8 - at ≡ 8 = omega arith in
-    records-begin (drop at input) (omega (arith, length-drop at input)) ∙ ap₂ (λ m r. take m (drop at input) ∷ records_of r) (sym n) (drop-drop 8 at input)
+pub records-next : (bs x rest : List ℕ) → bs ≡ x ++ rest → length x ≡ 8 → records_of bs ≡ x ∷ records_of rest
+records-next bs x rest e n =
+    records-begin bs (omega (arith, ap length e, length-append x rest))
+    ∙ ap₂ (λ p q. p ∷ records_of q) (ap₂ take (sym n) e ∙ take-append_seam x rest) (ap₂ drop (sym n) e ∙ drop-append_seam x rest)
 
-pub records-end : (input : List ℕ) (at : ℕ) → length input ≤ at → records_of (drop at input) ≡ []
+pub records-none : (bs : List ℕ) → length bs < 8 → records_of bs ≡ []
 unfolding records
-records-end input at l = ap records_of (drop_of_length-le input l)
+records-none bs l = let n : length bs / 8 ≡ 0 = omega arith in ap (λ k. records k bs) n
 
 -- ---- The first refusal
 
-module _ (read : List ℕ → Decoded) (counted : (p : List ℕ) (f : Refusal) → read p ≡ Refused f → 1 ≤ f.number) (k : ℕ) (p : List ℕ) (ps qs : List (List ℕ)) (e : qs ≡ p ∷ ps) where
-  pub refusal-on : fault_number (read p) ≡ 0 → first_refused read k qs ≡ first_refused read (k + 1) ps
-  refusal-on z = go (read p) refl
-    where
-      go : (d : Decoded) → read p ≡ d → first_refused read k qs ≡ first_refused read (k + 1) ps
-      go (Good x) q = ap (first_refused read k) e ∙ first_good read k p ps x q ∙ ap (λ n. first_refused read n ps) (sym (add-one k))
-      go (Refused f) q = let n : f.number ≡ 0 = sym (ap fault_number q) ∙ z in absurd (omega (arith, counted p f q))
+-- a part that reads is passed over, and one that is refused decides
+module _ (read : List ℕ → Result Event Refusal) (k : ℕ) (p : List ℕ) (ps qs : List (List ℕ)) (e : qs ≡ p ∷ ps) where
+  pub refusal-on : (r : Result Event Given) (x : Event) → told r ≡ read p → r ≡ Ok x → first_refused read k qs ≡ first_refused read (k + 1) ps
+  refusal-on r x h q = ap (first_refused read k) e ∙ first_good read k p ps x (sym h ∙ ap told q) ∙ ap (λ n. first_refused read n ps) (sym (add-one k))
 
-  pub refusal-here : fault_number (read p) ≢ 0 → first_refused read k qs ≡ record { number = fault_number (read p); place = k }
-  refusal-here z = go (read p) refl
-    where
-      go : (d : Decoded) → read p ≡ d → first_refused read k qs ≡ record { number = fault_number (read p); place = k }
-      go (Good x) q = absurd (z (ap fault_number q))
-      go (Refused f) q = ap (first_refused read k) e ∙ first-refused read k p ps f q ∙ ap (λ d. record { number = fault_number d; place = k }) (sym q)
+  pub refusal-here : (r : Result Event Given) (f : Given) → told r ≡ read p → r ≡ Err f → first_refused read k qs ≡ record { number = number f.fault; place = k }
+  refusal-here r f h q = ap (first_refused read k) e ∙ first-refused read k p ps (refusal_of f) (sym h ∙ ap told q)
 
-pub refusal-end : (read : List ℕ → Decoded) (k : ℕ) (qs : List (List ℕ)) → qs ≡ [] → first_refused read k qs ≡ record { number = 0; place = 0 }
+pub refusal-end : (read : List ℕ → Result Event Refusal) (k : ℕ) (qs : List (List ℕ)) → qs ≡ [] → first_refused read k qs ≡ record { number = 0; place = 0 }
 unfolding first_refused
 refusal-end read k qs e = ap (first_refused read k) e
 
 -- ---- What is written for each part
 
-pub bytes_on : (put : Event → List ℕ) (read : List ℕ → Decoded) (p : List ℕ) (ps qs : List (List ℕ)) → qs ≡ p ∷ ps
+pub bytes_on : (put : Event → List ℕ) (read : List ℕ → Result Event Refusal) (p : List ℕ) (ps qs : List (List ℕ)) → qs ≡ p ∷ ps
     → all_bytes put read qs ≡ part_bytes put (read p) ++ all_bytes put read ps
 unfolding all_bytes part_bytes events each
 bytes_on put read p ps qs e = ap (all_bytes put read) e ∙ each_append put (found (read p)) (events read ps)
 
-pub bytes-end : (put : Event → List ℕ) (read : List ℕ → Decoded) (qs : List (List ℕ)) → qs ≡ [] → all_bytes put read qs ≡ []
+pub bytes-end : (put : Event → List ℕ) (read : List ℕ → Result Event Refusal) (qs : List (List ℕ)) → qs ≡ [] → all_bytes put read qs ≡ []
 unfolding all_bytes events each
 bytes-end put read qs e = ap (all_bytes put read) e
 
-pub part-good : (put : Event → List ℕ) (d : Decoded) (e : Event) → d ≡ Good e → part_bytes put d ≡ put e
+pub part-good : (put : Event → List ℕ) (d : Result Event Refusal) (e : Event) → d ≡ Ok e → part_bytes put d ≡ put e
 unfolding part_bytes each
 part-good put d e h = ap (part_bytes put) h ∙ append-nil (put e)
 
-pub part_none : (put : Event → List ℕ) (d : Decoded) (f : Refusal) → d ≡ Refused f → part_bytes put d ≡ []
+pub part_none : (put : Event → List ℕ) (d : Result Event Refusal) (f : Refusal) → d ≡ Err f → part_bytes put d ≡ []
 unfolding part_bytes each
 part_none put d f h = ap (part_bytes put) h
 
@@ -180,6 +198,23 @@ put_on total old out out' b rest rest' n room p e w =
           ∙ sym (ap₂ (λ x y. x ++ over rest' y) (ap (take (n + length b)) w ∙ take_at front tail (n + length b) f) (ap (drop (n + length b)) w ∙ drop_at front tail (n + length b) f));
     }
 
+-- the bytes b are written after them: they have room, and the others follow
+module _ (total old out new b rest rest' : List ℕ) (n m : ℕ) (room : length total ≤ length old) (p : Put total old out n rest) (e : rest ≡ b ++ rest') where
+  size : length rest ≡ length b + length rest'
+  size = ap length e ∙ length-append b rest'
+
+  pub put-room : length b ≤ length (take (length out - n) (drop n out))
+  put-room = omega (arith, size, p.sizes, p.same_size, room, length-drop n out, ap length (rest-whole out n))
+
+  module _ (k : m ≡ length b) where
+    pub put-sum : n + m ≤ length total
+    put-sum = omega (arith, k, size, p.sizes)
+
+    pub put-next : new ≡ over b (take (length out - n) (drop n out)) → Put total old (put_mid n (length out - n) out new) (n + m) rest'
+    put-next w =
+        let l : n ≤ length out = omega (arith, p.sizes, p.same_size, room) in
+        subst (λ j. Put total old (put_mid n (length out - n) out new) (n + j) rest') (sym k) (put_on total old out _ b rest rest' n room p e (put-over b out new n l w))
+
 -- ---- A line, written where it fits
 
 pub line-fits : (e : Event) (old : List ℕ) → length (line_of e) ≤ length old → (line_room e old ≡ length (line_of e)) × (line_over e old ≡ over (line_of e) old)
@@ -192,17 +227,13 @@ unfolding line_room line_over
 line-unfit e old h =
     (ap (λ t. cond t (length (line_of e)) 0) (lt-leb (length (line_of e)) (length old) h), ap (λ t. cond t (over (line_of e) old) old) (lt-leb (length (line_of e)) (length old) h))
 
--- a line that holds bytes has them in its array
-pub holds-room : (l : Line) (bytes : List ℕ) → Holds l bytes → l.len ≤ length l.bytes
-holds-room l bytes h = omega (arith, h.size, ap length h.same, length-take l.len l.bytes)
-
 -- ---- One part, written
 
-pub part-fits : (put : Event → List ℕ) (d : Decoded) (e : Event) (n : ℕ) (old out : List ℕ) → d ≡ Good e → n ≡ length (put e) → out ≡ over (put e) old → (n ≡ length (part_bytes put d)) × (out ≡ over (part_bytes put d) old)
+pub part-fits : (put : Event → List ℕ) (d : Result Event Refusal) (e : Event) (n : ℕ) (old out : List ℕ) → d ≡ Ok e → n ≡ length (put e) → out ≡ over (put e) old → (n ≡ length (part_bytes put d)) × (out ≡ over (part_bytes put d) old)
 part-fits put d e n old out h p q =
     let same : part_bytes put d ≡ put e = part-good put d e h in (p ∙ sym (ap length same), q ∙ sym (ap (λ b. over b old) same))
 
-pub part-empty : (put : Event → List ℕ) (d : Decoded) (f : Refusal) (old : List ℕ) → d ≡ Refused f → (0 ≡ length (part_bytes put d)) × (old ≡ over (part_bytes put d) old)
+pub part-empty : (put : Event → List ℕ) (d : Result Event Refusal) (f : Refusal) (old : List ℕ) → d ≡ Err f → (0 ≡ length (part_bytes put d)) × (old ≡ over (part_bytes put d) old)
 unfolding over
 part-empty put d f old h =
     let same : part_bytes put d ≡ [] = part_none put d f h in (sym (ap length same), sym (ap (λ b. over b old) same))
@@ -211,5 +242,5 @@ pub record-fits : (e : Event) (old : List ℕ) → 8 ≤ length old → (encoded
 unfolding over
 record-fits e old h = (size-over old h ∙ sym (length-encoded e), encoded-over e old h ∙ ap (λ n. encoded e ++ drop n old) (sym (length-encoded e)))
 
-pub record-room : (d : Decoded) (e : Event) (n : ℕ) → d ≡ Good e → length (part_bytes encoded d) ≤ n → 8 ≤ n
+pub record-room : (d : Result Event Refusal) (e : Event) (n : ℕ) → d ≡ Ok e → length (part_bytes encoded d) ≤ n → 8 ≤ n
 record-room d e n h l = omega (arith, ap length (part-good encoded d e h), length-encoded e)

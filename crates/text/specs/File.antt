@@ -1,29 +1,20 @@
 -- Whole files: a text read into records, and records written as a text, with all refusals (document 02, L4).
-use Rattle.std.specs.Prelude.{ℕ, zero, suc, ◌*◌, ◌%◌, true, false, List, [], ◌∷◌, length, leb, eqb}
+use Rattle.std.specs.Prelude.{ℕ, zero, suc, ◌*◌, ◌%◌, true, false, List, [], ◌∷◌, length, leb, eqb, Result, Ok, Err}
 use Rattle.lists.specs.Lists.{keep, each, over}
 use Rattle.record.specs.declared.Event.{Event}
-use Rattle.record.specs.declared.Decoded.{Decoded}
-use Rattle.record.specs.declared.Decoded.TheVariants.{Good, Refused}
-use Rattle.record.specs.Faults.{Check, check, first_fault}
-use Rattle.record.specs.Answers.{Numbers, refused_as}
-use Rattle.record.specs.declared.Refusal.{Refusal}
+use Rattle.record.specs.Faults.{Check, check, first_fault, Refusal}
+use Rattle.record.specs.declared.Refusal.{Refusal as Given}
+use Rattle.record.specs.Answers.{Numbers, refused_as, bytes_or_refused}
 use Rattle.record.specs.Record.{record_size, encoded, decoded, records_of}
-use Rattle.text.specs.declared.Outcome.{Outcome}
-use Rattle.text.specs.declared.Outcome.TheVariants.{Done, Refused as Denied}
 use Rattle.text.specs.Line.{line_feed, glued, line_of, line_read}
 
--- This paper's number and values for each case of an outcome.  0 done: the number of bytes written.  2 refused: number and record
-abbrev pub numbers : Outcome → Numbers
-numbers (Done bytes) = record { kind = 0; first = bytes; second = 0 }
-numbers (Denied r) = refused_as r
-
--- An outcome, and the output at its end
+-- An answer, and the output at its end
 pub record Ending : Type 0 where
   pub answer : Numbers
   pub out : List ℕ
 
-abbrev pub ending : Outcome → List ℕ → Ending
-ending r out = record { answer = numbers r; out = out }
+abbrev pub ending : Result ℕ Given → List ℕ → Ending
+ending r out = record { answer = bytes_or_refused r; out = out }
 
 -- these bytes are written, and the output past them is left
 unfoldable pub done : List ℕ → List ℕ → Ending
@@ -36,16 +27,16 @@ refused number place out = record { answer = refused_as (record { number = numbe
 -- ---- Parts of a file, each read by itself
 
 -- the first part that is refused decides, with its place; number 0 where none is. k is the number of the first part
-unfoldable pub first_refused : (List ℕ → Decoded) → ℕ → List (List ℕ) → Refusal
+unfoldable pub first_refused : (List ℕ → Result Event Refusal) → ℕ → List (List ℕ) → Refusal
 first_refused read k [] = record { number = 0; place = 0 }
-first_refused read k (p ∷ ps) = elim (read p) [ Good e ↦ first_refused read (suc k) ps | Refused f ↦ record { number = f.number; place = k } ]
+first_refused read k (p ∷ ps) = elim (read p) [ Ok e ↦ first_refused read (suc k) ps | Err f ↦ record { number = f.number; place = k } ]
 
 -- what reading a part found
-abbrev pub found : Decoded → List Event
-found (Good e) = e ∷ []
-found (Refused f) = []
+abbrev pub found : Result Event Refusal → List Event
+found (Ok e) = e ∷ []
+found (Err f) = []
 
-unfoldable pub events : (List ℕ → Decoded) → List (List ℕ) → List Event
+unfoldable pub events : (List ℕ → Result Event Refusal) → List (List ℕ) → List Event
 events read ps = each (λ p. found (read p)) ps
 
 -- ---- Reading a text

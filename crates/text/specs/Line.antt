@@ -1,13 +1,12 @@
 -- The written form of a record (document 02, L4): a line such as `0 write 3 5`. Thread, name of the operation, then target and value
 -- where the kind has them; one space between, one line feed at the end; numbers in decimal without leading zeros.
-use Rattle.std.specs.Prelude.{ℕ, zero, suc, ◌-◌, Bool, true, false, cond, ◌&&◌, List, [], ◌∷◌, ◌++◌, map, length, take, get_or, leb, eqb}
+use Rattle.std.specs.Prelude.{ℕ, zero, suc, ◌-◌, Bool, true, false, cond, ◌&&◌, List, [], ◌∷◌, ◌++◌, map, length, take, get_or, leb, eqb, Result, Ok, Err}
 use Prim.Native.Char.{code}
 use Prim.Native.String.{String, [] as nothing, ◌∷◌ as ◌then◌}
 use Rattle.lists.specs.Lists.{over}
 use Rattle.record.specs.declared.Event.{Event}
 use Rattle.record.specs.declared.Op.{Op}
-use Rattle.record.specs.declared.Decoded.{Decoded}
-use Rattle.record.specs.declared.Decoded.TheVariants.{Good, Refused}
+use Rattle.record.specs.Faults.{Refusal}
 use Rattle.record.specs.Record.{kind, target, value, target_limit, operation}
 use Rattle.decimal.specs.Decimal.{decimal, value_of, is_number}
 
@@ -111,24 +110,24 @@ fit (m ∷ ms) [] = false
 fit (m ∷ ms) (w ∷ ws) = is_number m w && fit ms ws
 
 -- number 14: a line without this form
-abbrev pub formless : Decoded
-formless = Refused (record { number = 14; place = 0 })
+abbrev pub formless : Result Event Refusal
+formless = Err (record { number = 14; place = 0 })
 
 -- the words after the name, read
-unfoldable pub read_fields : ℕ → ℕ → List (List ℕ) → Decoded
+unfoldable pub read_fields : ℕ → ℕ → List (List ℕ) → Result Event Refusal
 read_fields t k ws =
     elim (fit (limits k) ws) [
-      | true ↦ Good (record { thread = t; op = operation k (value_of (get_or ws 0 [])) (value_of (get_or ws 1 [])) })
+      | true ↦ Ok (record { thread = t; op = operation k (value_of (get_or ws 0 [])) (value_of (get_or ws 1 [])) })
       | false ↦ formless
     ]
 
 -- the words after the thread, read
-unfoldable pub read_operation : ℕ → List (List ℕ) → Decoded
+unfoldable pub read_operation : ℕ → List (List ℕ) → Result Event Refusal
 read_operation t [] = formless
 read_operation t (w ∷ ws) = elim (kind_named w) [ zero ↦ formless | suc k ↦ read_fields t (suc k) ws ]
 
 -- the words of a line, read
-unfoldable pub read_words : List (List ℕ) → Decoded
+unfoldable pub read_words : List (List ℕ) → Result Event Refusal
 read_words [] = formless
 read_words (w ∷ ws) = elim (is_number 15 w) [ true ↦ read_operation (value_of w) ws | false ↦ formless ]
 
@@ -140,7 +139,7 @@ abbrev pub but_last : List ℕ → List ℕ
 but_last bs = take (length bs - 1) bs
 
 -- A line read: its event, or number 14
-unfoldable pub line_read : List ℕ → Decoded
+unfoldable pub line_read : List ℕ → Result Event Refusal
 line_read line = elim (eqb (last_byte line) line_feed) [ true ↦ read_words (words (but_last line)) | false ↦ formless ]
 
 -- Everything above, opened at once, for a proof by computation: `unfolding opened`

@@ -1,7 +1,6 @@
 -- What document 02, L4, demands of the written form, as one statement. Its proof is `right` in proofs/Right.
-use Rattle.std.specs.Prelude.{ℕ, ◌+◌, ◌≤◌, ◌<◌, ◌≡◌, List, ◌++◌, length, take, T}
+use Rattle.std.specs.Prelude.{ℕ, ◌+◌, ◌≤◌, ◌<◌, ◌≡◌, List, ◌++◌, length, take, T, Ok}
 use Rattle.record.specs.declared.Event.{Event}
-use Rattle.record.specs.declared.Decoded.TheVariants.{Good}
 use Rattle.record.specs.Record.{in_range}
 use Rattle.text.specs.Line.{line_of, line_read}
 use Rattle.text.specs.File.{Ending, done, refused, feeds, read_text, write_text}
@@ -16,16 +15,16 @@ result e = take e.answer.first e.out
 -- exactly one line: one that reads as the event, and no other does
 pub record OneLine (e : Event) : Type 0 where
   pub line : List ℕ
-  pub reads : line_read line ≡ Good e
-  pub only : (l : List ℕ) → line_read l ≡ Good e → l ≡ line
+  pub reads : line_read line ≡ Ok e
+  pub only : (l : List ℕ) → line_read l ≡ Ok e → l ≡ line
 
 pub record Right : Type 0 where
   -- every possible record has exactly one line
   pub one_line : (e : Event) → T (in_range e) → OneLine e
   -- reading a written line gives the record back
-  pub read-written : (e : Event) → T (in_range e) → line_read (line_of e) ≡ Good e
+  pub read-written : (e : Event) → T (in_range e) → line_read (line_of e) ≡ Ok e
   -- any line that reads is the line that would be written, of a possible record
-  pub written_read : (line : List ℕ) (e : Event) → line_read line ≡ Good e → (line_of e ≡ line) × T (in_range e)
+  pub written_read : (line : List ℕ) (e : Event) → line_read line ≡ Ok e → (line_of e ≡ line) × T (in_range e)
   -- reading what was written from a file of records gives these records again, where they fit
   pub write-then-read : (input out back : List ℕ) → Ended (write_text input out) → length input ≤ length back
       → read_text (result (write_text input out)) back ≡ done input back

@@ -7,39 +7,18 @@ mod scan;
 mod whole;
 
 ghost use Rattle.std.specs.Prelude.{◌≡◌};
-ghost use Rattle.record.specs.Answers.{refused_as};
+ghost use Rattle.record.specs.Answers.{told};
 ghost use Rattle.text.specs.Line.{line_read, line_over, line_room};
-ghost use Rattle.text.specs.File.{numbers, ending, read_text, write_text};
+ghost use Rattle.text.specs.File.{ending, read_text, write_text};
 
-use record::{Decoded, Event, Refusal};
+use record::{Event, Fault, Refusal};
 pub use whole::line_feeds;
 
-// What reading or writing a file ends in: so many bytes written, or a refusal.
-#[derive(Clone, Copy)]
-pub enum Outcome {
-    Done { bytes: usize },
-    Refused(Refusal),
-}
-
-// A refusal that isn't at a line or a record.
-fn refused(number: u8) -> Outcome
-    ensures { numbers result ≡ refused_as (record { number = number; place = 0 }) }
-{
-    Outcome::Refused(Refusal { number, place: 0 })
-}
-
 // The event of a line, or number 14.
-pub fn read_line(line: &[u8]) -> Decoded
-    ensures { result ≡ line_read line.now }
+pub fn read_line(line: &[u8]) -> Result<Event, Refusal>
+    ensures { told result ≡ line_read line.now }
 {
-    if line.len() == 0 {
-        return reading::formless();
-    }
-    let last = line.len() - 1;
-    if line[last] != b'\n' {
-        return reading::formless();
-    }
-    reading::body(&line[..last])
+    Ok(reading::event(line).ok_or(Fault::Form)?)
 }
 
 // Writes the line of an event at the front of an output, where it fits; how many bytes that was.
@@ -47,54 +26,42 @@ pub fn write_line(e: Event, out: &mut [u8]) -> usize
     ensures { (result ≡ line_room e out.old) × (out.new ≡ line_over e out.old) }
 {
     let line = making::line_of(e);
-    let size = line.len;
+    let size = line.len();
     if out.len() < size {
         return 0;
     }
-    let mut i = 0;
-    while i < size {
-        out[i] = line.bytes[i];
-        i += 1;
-    }
+    out[..size].copy_from_slice(line.as_slice());
     size
 }
 
 // Reads a text into records.
-pub fn read_text(text: &[u8], out: &mut [u8]) -> Outcome
+pub fn read_text(text: &[u8], out: &mut [u8]) -> Result<usize, Refusal>
     ensures { ending result out.new ≡ read_text text.now out.old }
 {
     let feeds = line_feeds(text);
     if 1024 < feeds {
-        return refused(2);
+        return Err(Fault::TooLong.into());
     }
     if out.len() < 8 * feeds {
-        return refused(3);
+        return Err(Fault::Output.into());
     }
-    let no = whole::first_formless(text);
-    if no.number != 0 {
-        return Outcome::Refused(no);
-    }
-    let bytes = whole::put_records(text, out);
-    Outcome::Done { bytes }
+    whole::first_formless(text)?;
+    Ok(whole::put_records(text, out))
 }
 
 // Writes records as a text.
-pub fn write_text(input: &[u8], out: &mut [u8]) -> Outcome
+pub fn write_text(input: &[u8], out: &mut [u8]) -> Result<usize, Refusal>
     ensures { ending result out.new ≡ write_text input.now out.old }
 {
     if input.len() % 8 != 0 {
-        return refused(1);
+        return Err(Fault::Length.into());
     }
     if 8192 < input.len() {
-        return refused(2);
+        return Err(Fault::TooLong.into());
     }
-    let no = whole::first_faulty(input);
-    if no.number != 0 {
-        return Outcome::Refused(no);
-    }
+    whole::first_faulty(input)?;
     if out.len() < whole::text_size(input) {
-        return refused(3);
+        return Err(Fault::Output.into());
     }
-    let bytes = whole::put_lines(input, out);
-    Outcome::Done { bytes }
+    Ok(whole::put_lines(input, out))
 }

@@ -1,123 +1,60 @@
-// Words within bytes: where one ends, which number it is, which operation it names.
-ghost use Rattle.std.specs.Prelude.{◌≡◌, ◌+◌, ◌≤◌, ◌<◌, length, get_or};
-ghost use Rattle.text.specs.Line.{name, same_word, kind_named};
-ghost use Rattle.text.specs.Steps.{before, run_in, number_in};
+// What a word is: a number, or the name of an operation.
+ghost use Rattle.std.specs.Prelude.{◌≡◌, ◌≤◌, IfSome};
+ghost use Rattle.text.specs.Line.{name as Line·name, kind_named as Line·kind_named};
+ghost use Rattle.text.specs.Steps.{number_in, kind_in};
 
-// The names of the kinds 1 to 10, and how many letters each has.
-const NAMES: [[u8; 8]; 10] = [
-    *b"read\0\0\0\0",
-    *b"write\0\0\0",
-    *b"acquire\0",
-    *b"release\0",
-    *b"prewait\0",
-    *b"postwait",
-    *b"notify\0\0",
-    *b"fork\0\0\0\0",
-    *b"join\0\0\0\0",
-    *b"yield\0\0\0",
-];
-
-const SIZES: [usize; 10] = [4, 5, 7, 7, 7, 8, 6, 4, 4, 5];
-
-// How many letters the name of a kind has.
-pub fn letters(kind: u8) -> usize
+// The name of a kind.
+#[tactic(auto, unfolding(crate::specs::Line::name, crate::specs::Line::names, crate::specs::Line::ascii))]
+pub fn name(kind: u8) -> &'static [u8]
     requires { (1 ≤ kind) × (kind ≤ 10) }
-    ensures { result ≡ length (name kind) }
+    ensures { result.now ≡ Line·name kind }
 {
-    let i = (kind - 1) as usize;
-    SIZES[i]
-}
-
-// Letter j of the name of a kind.
-pub fn letter(kind: u8, j: usize) -> u8
-    requires { (1 ≤ kind) × (kind ≤ 10) × (j < length (name kind)) }
-    ensures { result ≡ get_or (name kind) j 0 }
-{
-    let i = (kind - 1) as usize;
-    NAMES[i][j]
-}
-
-// The place of the first byte c, or the length where there is none.
-pub fn find(bytes: &[u8], c: u8) -> usize
-    ensures { (result ≡ before c bytes.now) × (result ≤ length bytes.now) }
-{
-    let mut i = 0;
-    while i < bytes.len() {
-        if bytes[i] == c {
-            return i;
-        }
-        i += 1;
+    match kind {
+        1 => b"read",
+        2 => b"write",
+        3 => b"acquire",
+        4 => b"release",
+        5 => b"prewait",
+        6 => b"postwait",
+        7 => b"notify",
+        8 => b"fork",
+        9 => b"join",
+        _ => b"yield",
     }
-    i
 }
 
-// The number that a run of digits is, and 1; 0 where there is another byte or it passes the limit.
-fn run(word: &[u8], limit: u16) -> u32
-    ensures { result ≡ run_in limit 0 word.now }
+// The number that a word is, where it is one within the limit.
+pub fn number(word: &[u8], limit: u16) -> Option<u16>
+    ensures { result ≡ number_in limit word.now }
 {
+    if word.is_empty() {
+        return None;
+    }
+    if 1 < word.len() && word[0] == b'0' {
+        return None;
+    }
     let mut value = 0;
-    let mut i = 0;
-    while i < word.len() {
-        let c = word[i];
-        if c < b'0' {
-            return 0;
-        }
-        if b'9' < c {
-            return 0;
+    for &c in word {
+        if !c.is_ascii_digit() {
+            return None;
         }
         value = 10 * value + (c - b'0') as u32;
         if (limit as u32) < value {
-            return 0;
+            return None;
         }
-        i += 1;
     }
-    value + 1
+    Some(value as u16)
 }
 
-// The number that a word is, and 1; 0 where it is none within the limit.
-pub fn number(word: &[u8], limit: u16) -> u32
-    ensures { (result ≡ number_in limit word.now) × (result ≤ limit + 1) }
+// The kind that a word names.
+pub fn kind_named(word: &[u8]) -> Option<u8>
+    ensures named { kind_in result ≡ Line·kind_named word.now }
+    ensures within { IfSome result (λ k. (1 ≤ k) × (k ≤ 10)) }
 {
-    if word.len() < 1 {
-        return 0;
-    }
-    if word.len() < 2 {
-        return run(word, limit);
-    }
-    if word[0] == b'0' {
-        return 0;
-    }
-    run(word, limit)
-}
-
-// Whether a word is the name of a kind.
-fn is_name(word: &[u8], kind: u8) -> bool
-    requires { (1 ≤ kind) × (kind ≤ 10) }
-    ensures { result ≡ same_word word.now (name kind) }
-{
-    if word.len() != letters(kind) {
-        return false;
-    }
-    let mut j = 0;
-    while j < word.len() {
-        if word[j] != letter(kind, j) {
-            return false;
+    for kind in 1..=10 {
+        if word == name(kind) {
+            return Some(kind);
         }
-        j += 1;
     }
-    true
-}
-
-// The kind that a word names, or 0.
-pub fn kind_named(word: &[u8]) -> u8
-    ensures { result ≡ kind_named word.now }
-{
-    let mut kind = 1;
-    while kind <= 10 {
-        if is_name(word, kind) {
-            return kind;
-        }
-        kind += 1;
-    }
-    0
+    None
 }

@@ -2,25 +2,20 @@
 // Of more than 8,200 bytes the first 8,200 are taken, so such an input is refused 2.
 #![tactic(auto)]
 
-use record::Refusal;
 use std::io;
-use text::Outcome;
-
-fn print_refusal(rt: &impl Print, refusal: Refusal) -> io::Result<()> {
-    println!(rt; "refused {} {}", refusal.number, refusal.place)
-}
+use text::write_text;
 
 fn main(rt: HostRuntime) -> io::Result<()> {
     let mut input = [0u8; 8200];
     let mut out = [0u8; 24576];
     let n = reading::read_full(&mut rt.stdin(), &mut input)?;
-    match text::write_text(&input[..n], &mut out) {
-        Outcome::Done { bytes } => {
+    match write_text(&input[..n], &mut out) {
+        Ok(bytes) => {
             if bytes <= 24576 {
                 rt.write_all(&out[..bytes])?;
             }
         }
-        Outcome::Refused(refusal) => print_refusal(&rt, refusal)?,
+        Err(refusal) => println!(rt; "refused {refusal}")?,
     }
     Ok(())
 }

@@ -1,15 +1,20 @@
--- `decimal::digits_of` meets its contract: the tens first, then the last digit.
+-- `decimal::digits_of`: the digits of the tenth, if there are any, and then the last digit.
 use native.Mathlib.Omega.{arith}
-use Prim.Native.Nat.{◌/◌}
-use mathlib.Core.Path.{◌∙◌}
-use Rattle.decimal.proofs.Decimals.{written_one, written-more, written-short}
+use mathlib.Core.Path.{sym, ap, ◌∙◌}
+use mathlib.Core.List.{[], ◌∷◌, ◌++◌}
+use lib.ListN.{length}
+use Prim.Native.Nat.{◌/◌, ◌%◌}
+use Rattle.decimal.specs.Decimal.{digit}
+use Rattle.decimal.proofs.Decimals.{size-four, decimal-small, decimal-more}
+use Rattle.decimal.proofs.+digits_of.Goals.{then-n-lt10, else-n-lt10}
 use Rattle.decimal.proofs.+digits_of.Goals as goal
 
-pub returns-then-n-lt10 : goal.returns-then-n-lt10
-returns-then-n-lt10 t c = c.with_digit.ensures ∙ written_one c.args.n (omega arith)
-
-pub with_digit-requires-2 : goal.with_digit-requires-2
-with_digit-requires-2 t c = (written-short (c.args.n / 10) (omega arith) c.digits_of.result c.digits_of.ensures, omega arith)
-
 pub returns : goal.returns
-returns t c = c.with_digit-2.ensures ∙ written-more c.args.n (omega arith) (omega arith) c.digits_of.result c.digits_of.ensures
+returns t c = elim c.if-n-lt10.branch [
+  | then-n-lt10 w ↦
+      c.push.ensures.fits (omega (arith, ap length (w.digits-is ∙ w.new-digits.ensures)))
+      ∙ ap (λ d. d ++ (digit (c.args.n % 10) ∷ [])) (w.digits-is ∙ w.new-digits.ensures) ∙ sym (decimal-small c.args.n (omega arith) ∙ ap (λ d. digit d ∷ []) (omega arith))
+  | else-n-lt10 w ↦
+      c.push.ensures.fits (omega (arith, ap length (w.digits-is ∙ w.digits_of-digits.ensures), size-four (c.args.n / 10) (omega arith)))
+      ∙ ap (λ d. d ++ (digit (c.args.n % 10) ∷ [])) (w.digits-is ∙ w.digits_of-digits.ensures) ∙ sym (decimal-more c.args.n (omega arith))
+]

@@ -1,16 +1,13 @@
 -- `graph::conflicts` meets its contract. Assumes nothing.
-use mathlib.Core.Path.{refl, sym, ◌∙◌}
+use mathlib.Core.Path.{sym, ◌∙◌}
+use borrow.Author.Tests.{eq-eqb}
 use Rattle.lists.proofs.Tests.{T-is}
-use Rattle.graph.specs.Conflict.{table}
 use Rattle.graph.proofs.Clash.{conflict-own, unequal-right}
 use Rattle.graph.proofs.conflicts.Goals as goal
 
-pub returns-then-t-u : goal.returns-then-t-u
-returns-then-t-u c = sym (T-is _ (conflict-own _ _ c.if-t-u.true))
+pub returns-then-a-b : goal.returns-then-a-b
+returns-then-a-b c = eq-eqb _ _ c.if-a-b.true ∙ sym (T-is _ (conflict-own c.args.a c.args.b c.if-a-b.true))
 
-pub conflicts_by-requires : goal.conflicts_by-requires
-unfolding table
-conflicts_by-requires c = (refl, c.if-t-u.false)
-
-pub returns : goal.returns
-returns c = sym (unequal-right _ _ _ _ _ _ c.if-t-u.false (sym c.some_equal.ensures ∙ c.if-some_equal.false))
+pub returns-else-some_equal : goal.returns-else-some_equal
+returns-else-some_equal c =
+    c.if-some_equal.false ∙ sym (unequal-right c.args.a c.args.b c.if-a-b.false (rw (← c.target.ensures, ← c.target-else-a-b.ensures) (sym c.some_equal.ensures ∙ c.if-some_equal.false)))

@@ -4,4 +4,4 @@ use Rattle.looking.proofs.Laws.{looked-refusal}
 use Rattle.proposal.proofs.refusal_of.Goals as goal
 
 pub returns : goal.returns
-returns c = sym (looked-refusal _ _ _ c.look-looked.ensures)
+returns c = sym (looked-refusal _ _ _ c.look.ensures)

@@ -1,17 +1,15 @@
--- `record::decode` meets its contract: the number found, or the event.
-use Prim.Native.Nat.{ℕ}
-use mathlib.Core.Path.{sym, ap, ◌∙◌}
-use mathlib.Core.List.{List}
-use Rattle.record.specs.declared.Decoded.TheVariants.{Good}
-use Rattle.record.proofs.Laws.{decoded-passed, decoded-number}
+-- `record::decode` meets its contract: the fault found, or the event.
+use Rattle.std.proofs.Common.{◌≡◌, ◌≢◌, ℕ, List, sym, ap, ◌∙◌, Ok, Err}
+use Rattle.record.specs.declared.Fault.{Fault}
+use Rattle.record.specs.Answers.{number}
+use Rattle.record.proofs.Laws.{decoded-passed, decoded-number, passed-on, number-some}
 use Rattle.record.proofs.decode.Goals as goal
 
-pub returns-then-number-ne0 : goal.returns-then-number-ne0
-returns-then-number-ne0 c =
-    let l : List ℕ = c.args.src.now in
-    sym (decoded-number l c.fault_of-number.result (sym c.fault_of-number.ensures) c.if-number-ne0.true)
+pub returns-in_err-check : goal.returns-in_err-check
+returns-in_err-check c =
+    let f : Fault = c.in_err-check.field-0.0 in
+    passed-on c.from_residual.result f c.from_residual.ensures.1
+    ∙ sym (decoded-number c.args.src.now (number f) (sym c.in_err-check.ensures) (number-some f))
 
 pub returns : goal.returns
-returns c =
-    let l : List ℕ = c.args.src.now in
-    ap Good c.event_of.ensures ∙ sym (decoded-passed l (sym c.fault_of-number.ensures ∙ c.if-number-ne0.false))
+returns c = ap Ok c.event_of.ensures ∙ sym (decoded-passed c.args.src.now (sym c.in_ok-check.ensures))

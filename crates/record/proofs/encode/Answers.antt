@@ -50,4 +50,4 @@ returns c =
     let o : Op = a.e.op in
     let stored =
     sets-eq (0xA7 ∷ 0x7A ∷ kind o ∷ a.e.thread ∷ target o ∷ 0 ∷ value o % 256 ∷ value o / 256 ∷ []) l 0 h in
-    (sym (size-over l h), simp (c.target_of.ensures, c.kind_of.ensures, c.value_of-v.ensures) (stored ∙ sym (encoded-over a.e l h)))
+    (sym (size-over l h), simp (c.target.ensures, c.kind.ensures, c.value-v.ensures) (stored ∙ sym (encoded-over a.e l h)))

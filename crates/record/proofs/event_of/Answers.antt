@@ -12,8 +12,6 @@ unfolding event
 returns c =
     let l : List ℕ = c.args.src.now in
     let value : c.word-value.result ≡ two_bytes l 6 = c.word-value.ensures ∙ ap₂ (λ (x y : ℕ). x + 256 * y) c.byte.ensures c.byte-2.ensures in
-    let kind : c.byte-3.result ≡ byte l 2 = c.byte-3.ensures in
-    let target : c.byte-4.result ≡ byte l 4 = c.byte-4.ensures in
-    let is : c.operation_of-op.result ≡ operation (byte l 2) (byte l 4) (two_bytes l 6) =
-    c.operation_of-op.ensures ∙ ap₂ (λ (k x : ℕ). operation k x c.word-value.result) kind target ∙ ap (operation (byte l 2) (byte l 4)) value in
-    ap₂ {C = Event} (λ (t : ℕ) (o : Op). record { thread = t; op = o }) c.byte-5.ensures is
+    let is : c.operation_of.result ≡ operation (byte l 2) (byte l 4) (two_bytes l 6) =
+    c.operation_of.ensures ∙ ap₂ (λ (k x : ℕ). operation k x c.word-value.result) c.byte-4.ensures c.byte-5.ensures ∙ ap (operation (byte l 2) (byte l 4)) value in
+    ap₂ {C = Event} (λ (t : ℕ) (o : Op). record { thread = t; op = o }) c.byte-3.ensures is

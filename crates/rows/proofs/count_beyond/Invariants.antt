@@ -1,11 +1,7 @@
 -- `rows::count_beyond` meets its contract: after k turns the bits of the first k numbers are counted.
-use Prim.Native.Nat.{◌≤◌, ◌-◌}
 use mathlib.Core.Path.{◌≡◌}
 use Rattle.rows.specs.Bits.{beyond_to}
 use Rattle.rows.proofs.count_beyond.Given as goal
 
 abbrev pub invariant-loop-k : goal.invariant-loop-k
-invariant-loop-k l = (l.k ≤ 8) × (l.count ≡ beyond_to l.k l.w l.a l.v l.b)
-
-abbrev pub decreases-loop-k : goal.decreases-loop-k
-decreases-loop-k l = 8 - l.k
+invariant-loop-k l = l.count ≡ beyond_to l.k l.w l.a l.v l.b

@@ -1,44 +1,40 @@
--- `text::read_text` meets its contract: 2, 3, 14, or the records.
-use Prim.Native.Nat.{ℕ, ◌*◌, ◌≤◌}
+-- `text::read_text`: 2, 3, 14, or the records.
+use Prim.Native.Nat.{◌*◌, ◌≤◌}
 use native.Mathlib.Omega.{arith}
-use mathlib.Core.List.{List}
+use mathlib.Core.Path.{sym, ap, ◌∙◌}
 use lib.ListN.{length}
-use Rattle.text.specs.File.{feeds}
-use Rattle.text.proofs.Endings.{read-two, read-three, read-fourteen, records-fit, read_all}
+use Rattle.record.specs.Answers.{refusal_of}
+use Rattle.text.specs.File.{feeds, ending}
+use Rattle.text.specs.Steps.{refusal_in}
+use Rattle.text.proofs.Endings.{passed, read-two, read-three, read-fourteen, records-fit, read_all}
 use Rattle.text.proofs.read_text.Goals as goal
 
 pub returns-then-feeds-gt1024 : goal.returns-then-feeds-gt1024
-returns-then-feeds-gt1024 c =
-    let a = c.args in
-    read-two a.text.now a.out.now c.refused.result (omega (arith, c.line_feeds-feeds.ensures)) c.refused.ensures
+returns-then-feeds-gt1024 c = read-two c.args.text.now c.args.out.now c.into.result (omega (arith, c.line_feeds-feeds.ensures)) (ap refusal_of c.into.ensures)
 
 pub returns-then-out-feeds : goal.returns-then-out-feeds
 returns-then-out-feeds c =
-    let text : List ℕ = c.args.text.now in
-    let out : List ℕ = c.args.out.now in
-    let few : feeds text ≤ 1024 = omega (arith, c.line_feeds-feeds.ensures) in
-    read-three text out c.refused-then-out-feeds.result few (omega (arith, c.line_feeds-feeds.ensures)) c.refused-then-out-feeds.ensures
+    let few : feeds c.args.text.now ≤ 1024 = omega (arith, c.line_feeds-feeds.ensures) in
+    read-three c.args.text.now c.args.out.now c.into-then-out-feeds.result few (omega (arith, c.line_feeds-feeds.ensures)) (ap refusal_of c.into-then-out-feeds.ensures)
 
-pub returns-then-no-ne0 : goal.returns-then-no-ne0
-returns-then-no-ne0 c =
-    let text : List ℕ = c.args.text.now in
-    let out : List ℕ = c.args.out.now in
-    let few : feeds text ≤ 1024 = omega (arith, c.line_feeds-feeds.ensures) in
-    let room : 8 * feeds text ≤ length out = omega (arith, c.line_feeds-feeds.ensures) in
-    read-fourteen text out few room c.first_formless-no.result c.first_formless-no.ensures c.if-no-ne0.true
+pub returns-in_err-first_formless : goal.returns-in_err-first_formless
+returns-in_err-first_formless c =
+    let few : feeds c.args.text.now ≤ 1024 = omega (arith, c.line_feeds-feeds.ensures) in
+    let room : 8 * feeds c.args.text.now ≤ length c.args.out.now = omega (arith, c.line_feeds-feeds.ensures) in
+    let found = c.in_err-first_formless.field-0.0 in
+    let told = sym (ap refusal_in c.in_err-first_formless.was) ∙ c.first_formless.ensures in
+    ap (λ r. ending r c.args.out.now) (passed c.from_residual.result found c.from_residual.ensures.1) ∙ read-fourteen c.args.text.now c.args.out.now few room found told
 
-pub put_records-bytes-requires : goal.put_records-bytes-requires
-put_records-bytes-requires c =
-    let text : List ℕ = c.args.text.now in
-    let out : List ℕ = c.args.out.now in
-    let few : feeds text ≤ 1024 = omega (arith, c.line_feeds-feeds.ensures) in
-    let room : 8 * feeds text ≤ length out = omega (arith, c.line_feeds-feeds.ensures) in
-    records-fit text out few room c.first_formless-no.result c.first_formless-no.ensures c.if-no-ne0.false
+pub put_records-requires : goal.put_records-requires
+put_records-requires c =
+    let few : feeds c.args.text.now ≤ 1024 = omega (arith, c.line_feeds-feeds.ensures) in
+    let room : 8 * feeds c.args.text.now ≤ length c.args.out.now = omega (arith, c.line_feeds-feeds.ensures) in
+    let none = sym c.first_formless.ensures ∙ ap refusal_in c.in_ok-first_formless.was in
+    records-fit c.args.text.now c.args.out.now few room none
 
 pub returns : goal.returns
 returns c =
-    let text : List ℕ = c.args.text.now in
-    let out : List ℕ = c.args.out.now in
-    let few : feeds text ≤ 1024 = omega (arith, c.line_feeds-feeds.ensures) in
-    let room : 8 * feeds text ≤ length out = omega (arith, c.line_feeds-feeds.ensures) in
-    read_all text out few room c.first_formless-no.result c.first_formless-no.ensures c.put_records-bytes.result c.put_records-bytes.new.out c.if-no-ne0.false c.put_records-bytes.ensures.0 c.put_records-bytes.ensures.1
+    let few : feeds c.args.text.now ≤ 1024 = omega (arith, c.line_feeds-feeds.ensures) in
+    let room : 8 * feeds c.args.text.now ≤ length c.args.out.now = omega (arith, c.line_feeds-feeds.ensures) in
+    let none = sym c.first_formless.ensures ∙ ap refusal_in c.in_ok-first_formless.was in
+    read_all c.args.text.now c.args.out.now few room none c.put_records.result c.put_records.new.out c.put_records.ensures.0 c.put_records.ensures.1

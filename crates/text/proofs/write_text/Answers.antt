@@ -1,42 +1,36 @@
--- `text::write_text` meets its contract: 1, 2, 5 to 7, 3, or the lines.
-use Prim.Native.Nat.{ℕ, ◌%◌, ◌≤◌}
+-- `text::write_text`: 1, 2, 5 to 7, 3, or the lines.
 use native.Mathlib.Omega.{arith}
-use mathlib.Core.Path.{◌≡◌}
-use mathlib.Core.List.{List}
-use lib.ListN.{length}
-use Rattle.text.proofs.Endings.{write-one, write_two, write-faulty, write-three, write-all}
+use mathlib.Core.Path.{sym, ap, ◌∙◌}
+use Rattle.record.specs.Answers.{refusal_of}
+use Rattle.text.specs.File.{ending}
+use Rattle.text.specs.Steps.{refusal_in}
+use Rattle.text.proofs.Endings.{passed, write-one, write_two, write-faulty, write-three, write-all}
 use Rattle.text.proofs.write_text.Goals as goal
 
 pub returns-then-input-ne0 : goal.returns-then-input-ne0
-returns-then-input-ne0 c =
-    let a = c.args in
-    write-one a.input.now a.out.now c.refused.result c.if-input-ne0.true c.refused.ensures
+returns-then-input-ne0 c = write-one c.args.input.now c.args.out.now c.into.result c.if-input-ne0.true (ap refusal_of c.into.ensures)
 
 pub returns-then-input-gt8192 : goal.returns-then-input-gt8192
-returns-then-input-gt8192 c =
-    let a = c.args in
-    write_two a.input.now a.out.now c.refused-then-input-gt8192.result c.if-input-ne0.false c.if-input-gt8192.true c.refused-then-input-gt8192.ensures
+returns-then-input-gt8192 c = write_two c.args.input.now c.args.out.now c.into-then-input-gt8192.result c.if-input-ne0.false c.if-input-gt8192.true (ap refusal_of c.into-then-input-gt8192.ensures)
 
-pub returns-then-no-ne0 : goal.returns-then-no-ne0
-returns-then-no-ne0 c =
-    let input : List ℕ = c.args.input.now in
-    let out : List ℕ = c.args.out.now in
-    let whole : length input % 8 ≡ 0 = c.if-input-ne0.false in
-    let few : length input ≤ 8192 = c.if-input-gt8192.false in
-    write-faulty input out whole few c.first_faulty-no.result c.first_faulty-no.ensures c.if-no-ne0.true
+pub returns-in_err-first_faulty : goal.returns-in_err-first_faulty
+returns-in_err-first_faulty c =
+    let whole = c.if-input-ne0.false in
+    let few = c.if-input-gt8192.false in
+    let found = c.in_err-first_faulty.field-0.0 in
+    let told = sym (ap refusal_in c.in_err-first_faulty.was) ∙ c.first_faulty.ensures in
+    ap (λ r. ending r c.args.out.now) (passed c.from_residual.result found c.from_residual.ensures.1) ∙ write-faulty c.args.input.now c.args.out.now whole few found told
 
 pub returns-then-out-text_size : goal.returns-then-out-text_size
 returns-then-out-text_size c =
-    let input : List ℕ = c.args.input.now in
-    let out : List ℕ = c.args.out.now in
-    let whole : length input % 8 ≡ 0 = c.if-input-ne0.false in
-    let few : length input ≤ 8192 = c.if-input-gt8192.false in
-    write-three input out whole few c.first_faulty-no.result c.first_faulty-no.ensures c.refused-then-out-text_size.result c.if-no-ne0.false (omega (arith, c.text_size.ensures)) c.refused-then-out-text_size.ensures
+    let whole = c.if-input-ne0.false in
+    let few = c.if-input-gt8192.false in
+    let none = sym c.first_faulty.ensures ∙ ap refusal_in c.in_ok-first_faulty.was in
+    write-three c.args.input.now c.args.out.now whole few none c.into-then-out-text_size.result (omega (arith, c.text_size.ensures)) (ap refusal_of c.into-then-out-text_size.ensures)
 
 pub returns : goal.returns
 returns c =
-    let input : List ℕ = c.args.input.now in
-    let out : List ℕ = c.args.out.now in
-    let whole : length input % 8 ≡ 0 = c.if-input-ne0.false in
-    let few : length input ≤ 8192 = c.if-input-gt8192.false in
-    write-all input out whole few c.first_faulty-no.result c.first_faulty-no.ensures c.put_lines-bytes.result c.put_lines-bytes.new.out c.if-no-ne0.false (omega (arith, c.text_size.ensures)) c.put_lines-bytes.ensures.0 c.put_lines-bytes.ensures.1
+    let whole = c.if-input-ne0.false in
+    let few = c.if-input-gt8192.false in
+    let none = sym c.first_faulty.ensures ∙ ap refusal_in c.in_ok-first_faulty.was in
+    write-all c.args.input.now c.args.out.now whole few none c.put_lines.result c.put_lines.new.out (omega (arith, c.text_size.ensures)) c.put_lines.ensures.0 c.put_lines.ensures.1

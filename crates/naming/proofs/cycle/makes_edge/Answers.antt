@@ -1,22 +1,12 @@
 -- `naming::cycle::makes_edge` meets its contract.
-use native.Mathlib.Omega.{arith}
-use mathlib.Core.Path.{sym, ap₂, ◌∙◌}
-use Rattle.graph.specs.Conflict.{conflict}
-use Rattle.graph.specs.Held.{events_in, record_at}
-use Rattle.graph.proofs.Held.{events-at}
+use mathlib.Core.Path.{sym, ap, ◌∙◌}
+use mathlib.Core.Bool.{not}
+use borrow.Author.Tests.{eq-eqb}
 use Rattle.graph.proofs.Steps.{makes-own, makes-by}
 use Rattle.naming.proofs.cycle.makes_edge.Goals as goal
 
-pub returns-then-labels-i : goal.returns-then-labels-i
-returns-then-labels-i c =
-    let all = events_in c.args.threads.now c.args.kinds.now c.args.targets.now in
-    sym (makes-own (record_at all c.args.labels.now c.args.j) (record_at all c.args.labels.now c.args.i) c.if-labels-i.true)
+pub returns-then-x-y : goal.returns-then-x-y
+returns-then-x-y c = sym (makes-by c.args.y c.args.x c.conflicts.result c.if-x-y.true c.conflicts.ensures)
 
-pub returns : goal.returns
-returns c =
-    let all = events_in c.args.threads.now c.args.kinds.now c.args.targets.now in
-    sym (makes-by (record_at all c.args.labels.now c.args.j) (record_at all c.args.labels.now c.args.i) c.conflicts.result
-    c.if-labels-i.false
-    (c.conflicts.ensures
-    ∙ sym (ap₂ conflict (events-at c.args.threads.now c.args.kinds.now c.args.targets.now c.args.i (omega arith))
-    (events-at c.args.threads.now c.args.kinds.now c.args.targets.now c.args.j (omega arith)))))
+pub returns-else-x-y : goal.returns-else-x-y
+returns-else-x-y c = ap not (eq-eqb c.args.x.transaction c.args.y.transaction c.if-x-y.false) ∙ sym (makes-own c.args.y c.args.x c.if-x-y.false)

@@ -1,13 +1,9 @@
 -- `naming::cycle::rank_records` meets its contract.
 use Prim.Native.Nat.{ℕ, ◌≤◌, ◌<◌}
-use mathlib.Core.Path.{◌≡◌}
-use lib.ListN.{length, get_or}
-use Rattle.naming.specs.Naming.{rank_by, Ranked}
+use lib.ListN.{length}
+use Rattle.naming.specs.Naming.{transaction_at, candidate, Ranked}
 use Rattle.naming.proofs.cycle.rank_records.Given as goal
 
 abbrev pub invariant-loop-i : goal.invariant-loop-i
 invariant-loop-i l =
-    (l.i ≤ l.count) × (length l.ranks ≡ length l.initial.ranks) × Ranked l.labels l.work l.t l.count l.i l.ranks × ((j : ℕ) → l.i ≤ j → j < l.count → l.low ≤ rank_by l.work l.t (get_or l.labels j 0))
-
-abbrev pub decreases-loop-i : goal.decreases-loop-i
-decreases-loop-i l = l.i
+    Ranked l.records l.work l.t l.i l.candidates l.lowest × ((j : ℕ) → l.i ≤ j → j < length l.records → l.low ≤ candidate l.work l.t (transaction_at l.records j))

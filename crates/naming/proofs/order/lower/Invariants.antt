@@ -1,15 +1,11 @@
 -- `naming::order::lower` meets its contract.
-use Prim.Native.Nat.{◌≤◌, ◌-◌}
-use mathlib.Core.Path.{◌≡◌}
+use Prim.Native.Nat.{◌-◌}
 use mathlib.Core.Bool.{cond}
-use lib.ListN.{length, get_or}
+use lib.ListN.{get_or}
 use Rattle.rows.specs.Bits.{has}
 use Rattle.naming.proofs.Picked.{Rewritten}
 use Rattle.naming.proofs.order.lower.Given as goal
 
 abbrev pub invariant-loop-t : goal.invariant-loop-t
 invariant-loop-t l =
-    (l.t ≤ l.m) × (length l.lefts ≡ length l.initial.lefts) × Rewritten (λ u. get_or l.initial.lefts u 0 - cond (has l.work (get_or l.nexts u 0) l.c) 1 0) l.initial.lefts l.t l.lefts
-
-abbrev pub decreases-loop-t : goal.decreases-loop-t
-decreases-loop-t l = l.m - l.t
+    Rewritten (λ u. get_or l.initial.lefts u 0 - cond (has l.work (get_or l.nexts u 0) l.c) 1 0) l.initial.lefts l.t l.lefts

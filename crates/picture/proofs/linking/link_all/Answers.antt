@@ -1,45 +1,42 @@
 -- `picture::linking::link_all` meets its contract: the edges of the first k records are marked.
-use Prim.Native.Nat.{ℕ}
+use Prim.Native.Nat.{◌<◌}
 use native.Mathlib.Omega.{arith}
-use native.Mathlib.Numerals.{add-one}
 use mathlib.Core.Path.{◌≡◌, refl, sym, ap, ◌∙◌, subst}
 use mathlib.Core.List.{List, []}
-use lib.ListN.{drop}
-use Rattle.record.specs.declared.Event.{Event}
+use lib.ListN.{length, take, drop}
+use lib.Seq.{take_all, length-take-le}
+use Rattle.std.proofs.Common.{get_or-take}
+use Rattle.lists.proofs.Places.{take-one-more}
+use Rattle.graph.specs.declared.Labelled.{Labelled}
 use Rattle.rows.proofs.Laws.{rest-cleared}
-use Rattle.graph.specs.Held.{events_in, held, Few}
-use Rattle.picture.specs.Linking.{Links}
+use Rattle.picture.specs.Linking.{Few, Links}
 use Rattle.picture.proofs.Marks.{links-none}
 use Rattle.picture.proofs.linking.link_all.Goals as goal
 
 pub loop-k-init : goal.loop-k-init
-unfolding held
-loop-k-init c =
-    (omega arith, subst (Links []) (sym c.clear.ensures) (links-none c.args.work.now c.requires.2), refl, refl)
+loop-k-init c = record { links = subst (Links []) (sym c.clear.ensures) (links-none c.args.work.now c.requires.1); rest = refl }
 
 pub link_record-requires : goal.link_record-requires
 link_record-requires c =
-    let few : Few c.args.count c.args.labels.now = c.requires.1 in
-    record { k_bound = (omega arith, λ j h. few j (omega arith)); links = c.loop-k.invariant.1 }
+    let k = c.loop-k.k in
+    let xs : List Labelled = c.args.records.now in
+    let all : Few xs = c.requires.0 in
+    let size : length (take k xs) ≡ k = length-take-le k xs (omega arith) in
+    record {
+      few = ((λ i d h. let below : i < k = omega (arith, h, size) in rw get_or-take (all i d (omega arith))), all k _ (omega arith));
+      links = c.loop-k.invariant.links;
+    }
 
 pub loop-k-preserved : goal.loop-k-preserved
 loop-k-preserved c =
-    let a = c.args in
-    let all : List Event = events_in a.threads.now a.kinds.now a.targets.now in (
-      omega arith,
-      subst (λ (n : ℕ). Links (held n all a.labels.now) c.link_record.new.work) (sym (add-one c.loop-k.k)) c.link_record.ensures.0,
-      c.link_record.ensures.1 ∙ c.loop-k.invariant.2,
-      c.link_record.auto.work ∙ c.loop-k.invariant.3,
-    )
-
-pub shape_of-work : goal.shape_of-work
-shape_of-work c = c.loop-k.invariant.3 ∙ c.clear.auto.w
+    let xs : List Labelled = c.args.records.now in
+    record {
+      links = subst (λ ys. Links ys c.link_record.new.work) (sym (take-one-more xs c.loop-k.k _ (omega arith))) c.link_record.ensures.0;
+      rest = c.link_record.ensures.1 ∙ c.loop-k.invariant.rest;
+    }
 
 pub returns : goal.returns
 returns c =
     let a = c.args in
-    let all : List Event = events_in a.threads.now a.kinds.now a.targets.now in
-    let e : c.loop-k.k ≡ a.count = omega arith in (
-      subst (λ (n : ℕ). Links (held n all a.labels.now) c.loop-k.work) e c.loop-k.invariant.1,
-      c.loop-k.invariant.2 ∙ ap (drop 4096) c.clear.ensures ∙ rest-cleared a.work.now c.requires.2,
-    )
+    let i = c.loop-k.invariant in
+    (subst (λ ys. Links ys c.loop-k.work) (take_all c.loop-k.k a.records.now (omega arith)) i.links, i.rest ∙ ap (drop 4096) c.clear.ensures ∙ rest-cleared a.work.now c.requires.1)

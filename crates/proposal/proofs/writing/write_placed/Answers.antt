@@ -16,21 +16,21 @@ use Rattle.proposal.proofs.writing.write_placed.Goals as goal
 pub write_event-requires : goal.write_event-requires
 write_event-requires c =
     let a = c.args in
-    let q : bytes_in (placed_as a.mark a.e) ≡ encoded a.e = ap bytes_in (placed-unmarked a.mark a.e c.if-mark-eq0.true) ∙ bytes_one a.e in
+    let q : bytes_in (placed_as a.mark a.e) ≡ encoded a.e = ap bytes_in (placed-unmarked a.mark a.e c.if-not-mark.true) ∙ bytes_one a.e in
     omega (arith, ap length q, length-encoded a.e, c.requires)
 
-pub returns-then-mark-eq0 : goal.returns-then-mark-eq0
-returns-then-mark-eq0 c =
+pub returns-then-not-mark : goal.returns-then-not-mark
+returns-then-not-mark c =
     let a = c.args in
     let w = c.write_event.ensures in
-    let q : bytes_in (placed_as a.mark a.e) ≡ encoded a.e = ap bytes_in (placed-unmarked a.mark a.e c.if-mark-eq0.true) ∙ bytes_one a.e in
+    let q : bytes_in (placed_as a.mark a.e) ≡ encoded a.e = ap bytes_in (placed-unmarked a.mark a.e c.if-not-mark.true) ∙ bytes_one a.e in
     (omega (arith, w.0, ap length q, length-encoded a.e), w.1 ∙ ap (λ l. written_at a.out.now a.n l) (sym q))
 
 pub write_event-end-requires : goal.write_event-end-requires
 write_event-end-requires c =
     let a = c.args in
     let two : List ℕ = encoded (yield_of a.e.thread) ++ encoded a.e in
-    let q : bytes_in (placed_as a.mark a.e) ≡ two = ap bytes_in (placed-marked a.mark a.e c.if-mark-eq0.false) ∙ bytes-two a.e in
+    let q : bytes_in (placed_as a.mark a.e) ≡ two = ap bytes_in (placed-marked a.mark a.e c.if-not-mark.false) ∙ bytes-two a.e in
     omega (arith, ap length q, length-append (encoded (yield_of a.e.thread)) (encoded a.e), length-encoded (yield_of a.e.thread), c.requires)
 
 pub write_event-requires-2 : goal.write_event-requires-2
@@ -39,7 +39,7 @@ write_event-requires-2 c =
     let y : List ℕ = encoded (yield_of a.e.thread) in
     let w = c.write_event-end.ensures in
     let q : bytes_in (placed_as a.mark a.e) ≡ y ++ encoded a.e =
-    ap bytes_in (placed-marked a.mark a.e c.if-mark-eq0.false) ∙ bytes-two a.e in
+    ap bytes_in (placed-marked a.mark a.e c.if-not-mark.false) ∙ bytes-two a.e in
     let pre = c.requires in
     let sizes : length (y ++ encoded a.e) ≡ length y + length (encoded a.e) = length-append y (encoded a.e) in
     let room : a.n + length y ≤ length a.out.now = omega (arith, ap length q, sizes, pre) in
@@ -54,7 +54,7 @@ returns c =
     let first = c.write_event-end.ensures in
     let second = c.write_event-2.ensures in
     let q : bytes_in (placed_as a.mark a.e) ≡ y ++ encoded a.e =
-    ap bytes_in (placed-marked a.mark a.e c.if-mark-eq0.false) ∙ bytes-two a.e in
+    ap bytes_in (placed-marked a.mark a.e c.if-not-mark.false) ∙ bytes-two a.e in
     let pre = c.requires in
     let end : c.write_event-end.result ≡ a.n + length y = first.0 ∙ ap (λ k. a.n + k) (sym (length-encoded (yield_of a.e.thread))) in (
       omega (arith, second.0, first.0, ap length q, length-append y (encoded a.e), length-encoded (yield_of a.e.thread), length-encoded a.e),

@@ -1,32 +1,31 @@
--- `reasons::searching::cause` meets its contract.
+-- `reasons::searching::cause` meets its contract: the two records are among those searched.
 use Prim.Native.Nat.{◌<◌}
 use native.Mathlib.Omega.{arith}
-use mathlib.Core.Path.{sym, ap₂, ◌∙◌, subst}
-use Rattle.graph.specs.Held.{events_in}
-use Rattle.reasons.specs.Why.{reason_of}
+use mathlib.Core.Path.{sym, subst}
+use lib.ListN.{length}
 use Rattle.reasons.proofs.Hits.{first_small, second-small, cause-right}
-use Rattle.reasons.proofs.searching.cause.Goals.{After-search-pair}
+use Rattle.reasons.proofs.searching.cause.Goals.{After-search-first}
 use Rattle.reasons.proofs.searching.cause.Goals as goal
 
--- the two records are among those searched
-small-first : (c : After-search-pair) → c.search-pair.result.first < c.args.count
-small-first c =
-    let a = c.args in
-    subst (λ i. i < a.count) (sym c.search-pair.ensures.0) (first_small (events_in a.threads.now a.kinds.now a.targets.now) a.labels.now a.count a.a a.b (omega arith))
+first-within : (c : After-search-first) → c.search-first.result.first < length c.args.records.now
+first-within c = let a = c.args in subst (λ i. i < length a.records.now) (sym c.search-first.ensures.0) (first_small a.records.now a.a a.b c.requires.0)
 
-small-second : (c : After-search-pair) → c.search-pair.result.second < c.args.count
-small-second c =
-    let a = c.args in
-    subst (λ i. i < a.count) (sym c.search-pair.ensures.1) (second-small (events_in a.threads.now a.kinds.now a.targets.now) a.labels.now a.count a.a a.b (omega arith) _)
+second-within : (c : After-search-first) → c.search-first.result.second < length c.args.records.now
+second-within c = let a = c.args in subst (λ i. i < length a.records.now) (sym c.search-first.ensures.1) (second-small a.records.now a.a a.b c.requires.0 _)
 
-pub operation_at-p-requires : goal.operation_at-p-requires
-operation_at-p-requires c = omega (arith, small-first (goal.at.operation_at-p-requires c).After-search-pair)
+pub offset_bounds-records-first : goal.offset_bounds-records-first
+offset_bounds-records-first c = omega (arith, first-within c)
 
-pub operation_at-q-requires : goal.operation_at-q-requires
-operation_at-q-requires c = omega (arith, small-second (goal.at.operation_at-q-requires c).After-search-pair)
+pub bounds-records-first : goal.bounds-records-first
+bounds-records-first c = first-within (goal.at.bounds-records-first c).After-search-first
+
+pub offset_bounds-records-second : goal.offset_bounds-records-second
+offset_bounds-records-second c = omega (arith, second-within (goal.at.offset_bounds-records-second c).After-search-first)
+
+pub bounds-records-second : goal.bounds-records-second
+bounds-records-second c = second-within (goal.at.bounds-records-second c).After-search-first
 
 pub returns : goal.returns
 returns c =
     let a = c.args in
-    cause-right (events_in a.threads.now a.kinds.now a.targets.now) a.labels.now a.count a.a a.b (omega arith) c.search-pair.result.first c.search-pair.result.second c.reason_of-reason.result c.search-pair.ensures
-    (c.reason_of-reason.ensures ∙ ap₂ reason_of c.operation_at-p.ensures c.operation_at-q.ensures)
+    cause-right a.records.now a.a a.b _ _ _ _ _ c.search-first.ensures (first-within (goal.at.returns c).After-search-first) (second-within (goal.at.returns c).After-search-first) c.reason_of-reason.ensures

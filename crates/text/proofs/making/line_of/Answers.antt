@@ -1,45 +1,40 @@
--- `text::line_of` meets its contract: thread, space, name, what the kind has, line feed.
-use Prim.Native.Nat.{◌<◌, ◌≤◌}
+-- `making::line_of`: thread, space, name, what the kind has, line feed.
+use Prim.Native.Nat.{◌≤◌}
 use native.Mathlib.Omega.{arith}
-use mathlib.Core.Path.{refl}
-use lib.ListN.{length}
+use mathlib.Core.Path.{◌≡◌, ap, ap₂, ◌∙◌}
+use mathlib.Core.List.{[], ◌∷◌, ◌++◌}
+use lib.ListN.{length, length-append}
 use Rattle.record.proofs.Laws.{shape}
-use Rattle.text.specs.Line.{name}
-use Rattle.text.proofs.Scans.{name-short}
+use Rattle.decimal.specs.Decimal.{decimal}
 use Rattle.decimal.proofs.Decimals.{size-three}
-use Rattle.text.proofs.Makings.{line_made}
+use Rattle.text.specs.Line.{name, space}
+use Rattle.text.proofs.Scans.{name-short}
+use Rattle.text.proofs.Makings.{line-made, begun-size}
 use Rattle.text.proofs.making.line_of.Goals as goal
 
-pub with_decimal-requires : goal.with_decimal-requires
-with_decimal-requires c =
-    omega (arith, size-three c.args.e.thread (omega arith))
-
-pub with_byte-thread-requires : goal.with_byte-thread-requires
-with_byte-thread-requires c =
-    omega (arith, c.with_decimal.ensures.size, size-three c.args.e.thread (omega arith))
-
-pub with_name-named-requires : goal.with_name-named-requires
-with_name-named-requires c =
+pub push_fields-requires : goal.push_fields-requires
+push_fields-requires c =
     let e = c.args.e in
-    (omega (arith, c.kind_of.ensures, (shape e.op).low), omega (arith, c.kind_of.ensures, (shape e.op).high), omega (arith, c.with_byte-thread.ensures.size, c.with_decimal.ensures.size, size-three e.thread (omega arith)))
-
-pub with_fields-requires : goal.with_fields-requires
-with_fields-requires c =
-    let e = c.args.e in
-    let n : length (name c.kind_of.result) ≤ 8 = name-short c.kind_of.result (omega (arith, c.kind_of.ensures, (shape e.op).low)) (omega (arith, c.kind_of.ensures, (shape e.op).high)) in
-    omega (arith, c.with_name-named.ensures.size, c.with_byte-thread.ensures.size, c.with_decimal.ensures.size, size-three e.thread (omega arith))
-
-pub with_byte-requires : goal.with_byte-requires
-with_byte-requires c =
-    let e = c.args.e in
-    let n : length (name c.kind_of.result) ≤ 8 = name-short c.kind_of.result (omega (arith, c.kind_of.ensures, (shape e.op).low)) (omega (arith, c.kind_of.ensures, (shape e.op).high)) in
-    omega (arith, c.with_fields.ensures.1, c.with_name-named.ensures.size, c.with_byte-thread.ensures.size, c.with_decimal.ensures.size, size-three e.thread (omega arith))
+    let digits : c.as_slice.result.now ≡ decimal e.thread = c.as_slice.ensures ∙ c.digits_of.ensures in
+    let few = size-three e.thread (omega arith) in
+    let thread = c.extend.ensures.fits (omega (arith, ap length c.new-line.ensures, ap length digits, few)) ∙ ap₂ (λ x y. x ++ y) c.new-line.ensures digits in
+    let spaced : c.push.new.self ≡ c.extend.new.self ++ (space ∷ []) = c.push.ensures.fits (omega (arith, ap length thread, few)) in
+    let begun : length c.push.new.self ≤ 4 = begun-size e.thread _ _ (omega arith) thread spaced in
+    let short = name-short c.kind.result (omega (arith, c.kind.ensures, (shape e.op).low)) (omega (arith, c.kind.ensures, (shape e.op).high)) in
+    let named : c.extend-2.new.self ≡ c.push.new.self ++ c.name.result.now = c.extend-2.ensures.fits (omega (arith, begun, ap length c.name.ensures, short)) in
+    omega (arith, begun, short, ap length c.name.ensures, ap length named, length-append c.push.new.self c.name.result.now)
 
 pub returns : goal.returns
 returns c =
     let e = c.args.e in
-    let n : length (name c.kind_of.result) ≤ 8 = name-short c.kind_of.result (omega (arith, c.kind_of.ensures, (shape e.op).low)) (omega (arith, c.kind_of.ensures, (shape e.op).high)) in
-    let t : e.thread < 1000 = omega (arith, c.struct_known-1.given) in
-    let w : c.with_byte.result.len ≤ 24 =
-    omega (arith, c.with_byte.ensures.size, c.with_fields.ensures.1, c.with_name-named.ensures.size, c.with_byte-thread.ensures.size, c.with_decimal.ensures.size, size-three e.thread t) in
-    line_made e c.kind_of.result _ c.with_decimal.result c.with_byte-thread.result c.with_name-named.result c.with_fields.result c.with_byte.result refl c.with_decimal.ensures c.with_byte-thread.ensures c.kind_of.ensures c.with_name-named.ensures c.with_fields.ensures.0 c.with_byte.ensures w
+    let digits : c.as_slice.result.now ≡ decimal e.thread = c.as_slice.ensures ∙ c.digits_of.ensures in
+    let few = size-three e.thread (omega arith) in
+    let thread = c.extend.ensures.fits (omega (arith, ap length c.new-line.ensures, ap length digits, few)) ∙ ap₂ (λ x y. x ++ y) c.new-line.ensures digits in
+    let spaced : c.push.new.self ≡ c.extend.new.self ++ (space ∷ []) = c.push.ensures.fits (omega (arith, ap length thread, few)) in
+    let begun : length c.push.new.self ≤ 4 = begun-size e.thread _ _ (omega arith) thread spaced in
+    let short = name-short c.kind.result (omega (arith, c.kind.ensures, (shape e.op).low)) (omega (arith, c.kind.ensures, (shape e.op).high)) in
+    let named : c.extend-2.new.self ≡ c.push.new.self ++ c.name.result.now = c.extend-2.ensures.fits (omega (arith, begun, ap length c.name.ensures, short)) in
+    let ended = c.push-2.ensures.fits
+    (omega (arith, begun, short, ap length c.name.ensures, ap length named, length-append c.push.new.self c.name.result.now, c.push_fields.ensures.1)) in
+    ended ∙ line-made e c.extend.new.self c.push.new.self c.extend-2.new.self c.push_fields.new.line thread spaced
+    (named ∙ ap (λ n. c.push.new.self ++ n) (c.name.ensures ∙ ap name c.kind.ensures)) c.push_fields.ensures.0

@@ -1,25 +1,54 @@
--- `text::number` meets its contract: a run of digits without a leading zero.
+-- `scan::number`: a run of digits without a leading zero.
+use Prim.Native.Nat.{◌+◌, ◌-◌, ◌*◌, ◌<◌}
 use native.Mathlib.Omega.{arith}
-use mathlib.Core.Path.{sym, ◌∙◌}
-use Rattle.text.proofs.Scans.{number-empty, number-led, number-run, run-low}
+use mathlib.Core.Path.{◌≡◌, sym, ap, ◌∙◌}
+use lib.ListN.{length, get_or, drop, drop_of_length-le}
+use borrow.Author.Tests.{eqb-true, eqb-false}
+use Rattle.text.specs.Steps.{run_in}
+use Rattle.text.proofs.Scans.{number-empty, number-led, number-run, run_on, run-bad, run-over, run_end}
+use Rattle.text.proofs.scan.number.Goals.{else-word-gt1-via-then-word-gt1+else-word-eq48, else-word-gt1-via-else-word-gt1}
 use Rattle.text.proofs.scan.number.Goals as goal
 
-pub returns-then-word-lt1 : goal.returns-then-word-lt1
-returns-then-word-lt1 c =
-    let a = c.args in
-    (sym (number-empty a.limit a.word.now (omega arith)), omega arith)
-
-pub returns-then-word-lt2 : goal.returns-then-word-lt2
-returns-then-word-lt2 c =
-    let a = c.args in
-    (c.run.ensures ∙ sym (number-run a.limit a.word.now (omega arith) (λ z. omega arith)), omega (arith, c.run.ensures, run-low a.limit 0 a.word.now))
+pub returns-then-is_empty : goal.returns-then-is_empty
+returns-then-is_empty c =
+    let none : length c.args.word.now ≡ 0 = eqb-true (length c.args.word.now) 0 (sym c.is_empty.ensures ∙ c.if-is_empty.true) in
+    sym (number-empty c.args.limit c.args.word.now (omega arith))
 
 pub returns-then-word-eq48 : goal.returns-then-word-eq48
-returns-then-word-eq48 c =
+returns-then-word-eq48 c = sym (number-led c.args.limit c.args.word.now (omega arith) (omega arith))
+
+pub returns-then-not-is_ascii_digit : goal.returns-then-not-is_ascii_digit
+returns-then-not-is_ascii_digit c =
     let a = c.args in
-    (sym (number-led a.limit a.word.now (omega arith) c.if-word-eq48.true), omega arith)
+    let led : get_or a.word.now 0 0 ≡ 48 → length a.word.now < 2 = elim c.else-word-gt1.branch [
+      | else-word-gt1-via-then-word-gt1+else-word-eq48 w ↦ λ z. absurd (w.if-word-eq48.false z)
+      | else-word-gt1-via-else-word-gt1 w ↦ λ z. omega arith
+    ] in
+    sym (number-run a.limit a.word.now (omega arith) led ∙ c.loop-c.invariant.1 ∙ run-bad a.limit c.loop-c.value a.word.now c.loop-c.c-index (omega arith) (λ l h. omega (arith, c.if-not-is_ascii_digit.ensures.cases)))
+
+pub returns-then-limit-value : goal.returns-then-limit-value
+returns-then-limit-value c =
+    let a = c.args in
+    let led : get_or a.word.now 0 0 ≡ 48 → length a.word.now < 2 = elim c.else-word-gt1.branch [
+      | else-word-gt1-via-then-word-gt1+else-word-eq48 w ↦ λ z. absurd (w.if-word-eq48.false z)
+      | else-word-gt1-via-else-word-gt1 w ↦ λ z. omega arith
+    ] in
+    sym (number-run a.limit a.word.now (omega arith) led ∙ c.loop-c.invariant.1
+    ∙ run_on a.limit c.loop-c.value a.word.now c.loop-c.c-index (omega arith) c.if-not-is_ascii_digit.ensures.cases.0 c.if-not-is_ascii_digit.ensures.cases.1
+    ∙ run-over a.limit (10 * c.loop-c.value + (get_or a.word.now c.loop-c.c-index 0 - 48)) (drop (c.loop-c.c-index + 1) a.word.now) (omega arith))
+
+pub loop-c-preserved : goal.loop-c-preserved
+loop-c-preserved c =
+    let a = c.args in
+    (omega arith, c.loop-c.invariant.1 ∙ run_on a.limit c.loop-c.value a.word.now c.loop-c.c-index (omega arith) c.if-not-is_ascii_digit.ensures.cases.0 c.if-not-is_ascii_digit.ensures.cases.1)
 
 pub returns : goal.returns
 returns c =
     let a = c.args in
-    (c.run-2.ensures ∙ sym (number-run a.limit a.word.now (omega arith) (λ z. absurd (c.if-word-eq48.false z))), omega (arith, c.run-2.ensures, run-low a.limit 0 a.word.now))
+    let some = eqb-false (length a.word.now) 0 (sym c.is_empty.ensures ∙ c.if-is_empty.false) in
+    let led : get_or a.word.now 0 0 ≡ 48 → length a.word.now < 2 = elim c.else-word-gt1.branch [
+      | else-word-gt1-via-then-word-gt1+else-word-eq48 w ↦ λ z. absurd (w.if-word-eq48.false z)
+      | else-word-gt1-via-else-word-gt1 w ↦ λ z. omega arith
+    ] in
+    sym (number-run a.limit a.word.now (omega (arith, some)) led ∙ c.loop-c.invariant.1
+    ∙ ap (run_in a.limit c.loop-c.value) (drop_of_length-le a.word.now (omega arith)) ∙ run_end a.limit c.loop-c.value c.loop-c.invariant.0)

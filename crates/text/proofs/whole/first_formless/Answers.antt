@@ -1,41 +1,39 @@
--- `text::first_formless` meets its contract: the lines before `at` all read, and the others are counted from `line` on.
-use Prim.Native.Nat.{ℕ, ◌-◌}
-use native.Mathlib.Omega.{arith}
-use mathlib.Core.Path.{◌≡◌, refl, sym, ap, ◌∙◌}
-use mathlib.Core.List.{List}
-use lib.ListN.{take, drop}
+-- `whole::first_formless`: the first line that is refused, with its place.
+use Prim.Native.Nat.{ℕ}
+use mathlib.Core.Path.{sym, ap, ◌∙◌}
+use Rattle.std.proofs.Common.{rules}
+use Rattle.std.proofs.lemmas.List.Sorted.{answers_always}
+use Rattle.std.specs.Iterator.Adapters.{enumerate_source, enumerate_count}
+use Rattle.std.specs.Slice.Iter.{split_inclusive_rest}
+use Rattle.record.specs.Answers.{refusal_of}
 use Rattle.text.specs.Line.{line_read}
-use Rattle.text.specs.File.{lines}
-use Rattle.text.specs.Steps.{fault_number}
-use Rattle.text.proofs.Files.{line-counted}
-use Rattle.text.proofs.Wholes.{lines_at, lines_end, refusal-on, refusal-here, refusal-end}
+use Rattle.text.specs.File.{first_refused, lines}
+use Rattle.text.proofs.Wholes.{line-next, lines-none, refusal-on, refusal-here, refusal-end}
 use Rattle.text.proofs.whole.first_formless.Goals as goal
 
-pub loop-at-init : goal.loop-at-init
-loop-at-init c = (omega arith, omega arith, refl)
+pub returns-in-Err : goal.returns-in-Err
+returns-in-Err c =
+    let s = c.loop-place.place-iterator in
+    let t = c.next.new.self in
+    let more = line-next (enumerate_source s) (enumerate_source t) c.in-Some.line (answers_always _ _ _ (λ f a r f' h. search rules)) c.in-Some.ensures.steps.0 in
+    ap (λ (p : ℕ). refusal_of (record { fault = c.in-Err.no.fault; place = p })) c.in-Some.ensures.steps.1
+    ∙ sym (c.loop-place.invariant.same ∙ refusal-here line_read (enumerate_count s) c.in-Some.line.now (lines (split_inclusive_rest (enumerate_source t))) (lines (split_inclusive_rest (enumerate_source s))) more c.read_line.result c.in-Err.no c.read_line.ensures c.in-Err.is)
 
-pub returns-then-number-ne0 : goal.returns-then-number-ne0
-returns-then-number-ne0 c =
-    let text : List ℕ = c.args.text.now in
-    let line : List ℕ = take (c.line_end-end.result - c.loop-at.at) (drop c.loop-at.at text) in
-    let more = lines_at text c.loop-at.at c.line_end-end.result c.line_end-end.ensures in
-    let n : c.fault_number-number.result ≡ fault_number (line_read line) = c.fault_number-number.ensures ∙ ap fault_number c.read_line.ensures in
-    let found = c.loop-at.invariant.2 ∙ refusal-here line_read line-counted c.loop-at.line line (lines (drop c.line_end-end.result text)) (lines (drop c.loop-at.at text)) more (λ z. c.if-number-ne0.true (n ∙ z)) in
-    record { number = n ∙ sym (ap (λ f. f.number) found); place = sym (ap (λ f. f.place) found) }
-
-pub loop-at-preserved : goal.loop-at-preserved
-loop-at-preserved c =
-    let text : List ℕ = c.args.text.now in
-    let line : List ℕ = take (c.line_end-end.result - c.loop-at.at) (drop c.loop-at.at text) in
-    let more = lines_at text c.loop-at.at c.line_end-end.result c.line_end-end.ensures in
-    let n : c.fault_number-number.result ≡ fault_number (line_read line) = c.fault_number-number.ensures ∙ ap fault_number c.read_line.ensures in (
-      omega (arith, c.line_end-end.ensures.within),
-      omega (arith, c.line_end-end.ensures.later),
-      c.loop-at.invariant.2 ∙ refusal-on line_read line-counted c.loop-at.line line (lines (drop c.line_end-end.result text)) (lines (drop c.loop-at.at text)) more (sym n ∙ c.if-number-ne0.false),
-    )
+pub loop-place-preserved : goal.loop-place-preserved
+loop-place-preserved c =
+    let s = c.loop-place.place-iterator in
+    let t = c.next.new.self in
+    let more = line-next (enumerate_source s) (enumerate_source t) c.in-Some.line (answers_always _ _ _ (λ f a r f' h. search rules)) c.in-Some.ensures.steps.0 in
+    record {
+      can = search rules;
+      ends = search rules;
+      same =
+          c.loop-place.invariant.same
+          ∙ refusal-on line_read (enumerate_count s) c.in-Some.line.now (lines (split_inclusive_rest (enumerate_source t))) (lines (split_inclusive_rest (enumerate_source s))) more c.read_line.result c.in_default.field-0 c.read_line.ensures c.in_default.is
+          ∙ ap (λ n. first_refused line_read n (lines (split_inclusive_rest (enumerate_source t)))) (sym c.in-Some.ensures.steps.2);
+    }
 
 pub returns : goal.returns
 returns c =
-    let text : List ℕ = c.args.text.now in
-    let found = c.loop-at.invariant.2 ∙ refusal-end line_read c.loop-at.line (lines (drop c.loop-at.at text)) (lines_end text c.loop-at.at (omega arith)) in
-    record { number = sym (ap (λ f. f.number) found); place = sym (ap (λ f. f.place) found) }
+    let s = c.loop-place.place-iterator in
+    sym (c.loop-place.invariant.same ∙ refusal-end line_read (enumerate_count s) (lines (split_inclusive_rest (enumerate_source s))) (lines-none (split_inclusive_rest (enumerate_source s)) c.in-None.ensures.steps.0.0))

@@ -1,28 +1,32 @@
--- `text::text_size` meets its contract: the lines of the records before `at` have `size` bytes.
-use Prim.Native.Nat.{ℕ, ◌+◌, ◌-◌, ◌≤◌}
+-- `whole::text_size`: the sizes of the lines, added up.
 use native.Mathlib.Omega.{arith}
-use mathlib.Core.Path.{ap}
-use mathlib.Core.List.{List}
-use lib.ListN.{length, take, drop, length-append}
+use mathlib.Core.Path.{ap, ◌∙◌}
+use lib.ListN.{length, length-append}
+use Rattle.std.proofs.Common.{rules}
+use Rattle.std.specs.Slice.Iter.{chunks_exact_rest}
 use Rattle.record.specs.Record.{decoded, records_of}
 use Rattle.text.specs.Line.{line_of}
 use Rattle.text.specs.Steps.{part_bytes, all_bytes}
-use Rattle.text.proofs.Wholes.{records-at, records-end, bytes_on, bytes-end}
+use Rattle.text.proofs.Wholes.{records-next, records-none, bytes_on, bytes-end}
 use Rattle.text.proofs.whole.text_size.Goals as goal
 
-pub loop-at-init : goal.loop-at-init
-loop-at-init c = (omega arith, omega arith, omega arith, omega arith)
-
-pub loop-at-preserved : goal.loop-at-preserved
-loop-at-preserved c =
-    let input : List ℕ = c.args.input.now in
-    let one : List ℕ = take (c.loop-at.at + 8 - c.loop-at.at) (drop c.loop-at.at input) in
-    let fits : c.loop-at.at + 8 ≤ length input = omega arith in
-    let rest : List ℕ = all_bytes line_of decoded (records_of (drop (c.loop-at.at + 8) input)) in
-    let more = bytes_on line_of decoded one (records_of (drop (c.loop-at.at + 8) input)) (records_of (drop c.loop-at.at input)) (records-at input c.loop-at.at fits) in
-    (fits, omega arith, omega arith, omega (arith, ap length more, length-append (part_bytes line_of (decoded one)) rest, c.line_size-size.ensures.0))
+pub loop-bytes-preserved : goal.loop-bytes-preserved
+loop-bytes-preserved c =
+    let s = c.loop-bytes.bytes-iterator in
+    let t = c.next.new.self in
+    let eight = c.in-Some.ensures.steps.1.1 ∙ c.loop-bytes.invariant.eight in
+    let parts = records-next (chunks_exact_rest s) c.in-Some.bytes.now (chunks_exact_rest t) c.in-Some.ensures.steps.1.0 eight in
+    let more = bytes_on line_of decoded c.in-Some.bytes.now (records_of (chunks_exact_rest t)) (records_of (chunks_exact_rest s)) parts in
+    record {
+      can = search rules;
+      ends = search rules;
+      eight = c.in-Some.ensures.steps.0 ∙ c.loop-bytes.invariant.eight;
+      few = omega (arith, c.loop-bytes.invariant.few, c.line_size-size.ensures.1, eight, ap length c.in-Some.ensures.steps.1.0, length-append c.in-Some.bytes.now (chunks_exact_rest t));
+      sizes = omega (arith, c.loop-bytes.invariant.sizes, c.line_size-size.ensures.0, ap length more, length-append (part_bytes line_of (decoded c.in-Some.bytes.now)) (all_bytes line_of decoded (records_of (chunks_exact_rest t))));
+    }
 
 pub returns : goal.returns
 returns c =
-    let input : List ℕ = c.args.input.now in
-    omega (arith, ap length (bytes-end line_of decoded (records_of (drop c.loop-at.at input)) (records-end input c.loop-at.at (omega arith))))
+    let s = c.loop-bytes.bytes-iterator in
+    let none = records-none (chunks_exact_rest s) (omega (arith, c.in-None.ensures.steps.1.0, c.loop-bytes.invariant.eight)) in
+    omega (arith, c.loop-bytes.invariant.sizes, ap length (bytes-end line_of decoded (records_of (chunks_exact_rest s)) none))

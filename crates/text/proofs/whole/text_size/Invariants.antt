@@ -1,15 +1,18 @@
--- `text::text_size` meets its contract: the lines of the records before `at` have `size` bytes.
-use Prim.Native.Nat.{◌+◌, ◌-◌, ◌*◌, ◌%◌, ◌≤◌}
+-- `whole::text_size`: the lines of the records that came have `size` bytes.
+use Prim.Native.Nat.{◌+◌, ◌*◌, ◌≤◌}
 use mathlib.Core.Path.{◌≡◌}
-use lib.ListN.{length, drop}
+use lib.ListN.{length}
+use Rattle.std.specs.Slice.Iter.{chunks_exact_rest, chunks_exact_size}
 use Rattle.record.specs.Record.{decoded, records_of}
 use Rattle.text.specs.Line.{line_of}
 use Rattle.text.specs.Steps.{all_bytes}
 use Rattle.text.proofs.whole.text_size.Given as goal
 
-abbrev pub invariant-loop-at : goal.invariant-loop-at
-invariant-loop-at l =
-    (l.at ≤ length l.input) × (l.at % 8 ≡ 0) × (l.size ≤ 3 * l.at) × (l.size + length (all_bytes line_of decoded (records_of (drop l.at l.input))) ≡ length (all_bytes line_of decoded (records_of l.input)))
-
-abbrev pub decreases-loop-at : goal.decreases-loop-at
-decreases-loop-at l = length l.input - l.at
+abbrev pub invariant-loop-bytes : goal.invariant-loop-bytes
+invariant-loop-bytes l = record {
+  can : (goal.iterator-loop-bytes).can_next l.bytes-iterator;
+  ends : (goal.iterator-loop-bytes).is_finite l.bytes-iterator;
+  eight : chunks_exact_size l.bytes-iterator ≡ 8;
+  few : l.size + 3 * length (chunks_exact_rest l.bytes-iterator) ≤ 3 * length l.input;
+  sizes : l.size + length (all_bytes line_of decoded (records_of (chunks_exact_rest l.bytes-iterator))) ≡ length (all_bytes line_of decoded (records_of l.input));
+}
