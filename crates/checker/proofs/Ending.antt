@@ -24,7 +24,8 @@ use Rattle.naming.proofs.Right.{named-right}
 use Rattle.checker.specs.declared.Answer.{Answer}
 use Rattle.checker.specs.declared.Answer.TheVariants.{Cooperable, Violation}
 use Rattle.checker.specs.Verdict.{verdict, cooperable, violation}
-use Rattle.checker.specs.Writing.{past_end, Few, bytes_of}
+use Rattle.graph.specs.Held.{record_past_end}
+use Rattle.checker.specs.Writing.{Few, bytes_of}
 use Rattle.checker.specs.Concluded.{Sound, history, Ready, Named, Written, Concluded}
 use Rattle.checker.proofs.Written.{length-each}
 
@@ -48,8 +49,8 @@ named-cycle es k h = ap (named es) h
 pub records-few : (xs : List Labelled) → xs ≡ labelled (history xs) → Sound (history xs) → Few xs
 unfolding transactions
 records-few xs are s i h =
-    let m = at-among xs i past_end h in
-    omega (arith, labels-lt none_yet (history xs) sane-none (get_or xs i past_end) (subst (Among (get_or xs i past_end)) are m), s.few)
+    let m = at-among xs i record_past_end h in
+    omega (arith, labels-lt none_yet (history xs) sane-none (get_or xs i record_past_end) (subst (Among (get_or xs i record_past_end)) are m), s.few)
 
 pub records-most : (xs : List Labelled) → Sound (history xs) → length xs ≤ 1024
 records-most xs s = omega (arith, length-map xs (λ x. x.event), s.most)

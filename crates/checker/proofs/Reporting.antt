@@ -28,7 +28,8 @@ use Rattle.checker.specs.Judged.{size_checks, refusal, judged}
 use Rattle.checker.specs.Report as Report
 use Rattle.checker.specs.Report.{reported}
 use Rattle.checker.specs.Left.{records_left, order_left}
-use Rattle.checker.specs.Writing.{past_end, Few, line_of}
+use Rattle.graph.specs.Held.{record_past_end}
+use Rattle.checker.specs.Writing.{Few, line_of}
 use Rattle.checker.specs.Concluded.{named_in}
 use Rattle.checker.proofs.Judging.{left, records-looked, looked-none, sizes-of}
 use Rattle.checker.proofs.Demand3.{passed, is-cooperable, is-violation, refused-keeps}
@@ -88,7 +89,7 @@ module _ (input out work : List ℕ) (fine : (refusal input out work).number ≡
   noted-front xs n f =
       let p = passed input out work fine in (
         omega (arith, noted-size xs n f, p.most),
-        λ i h. noted-few input p _ (subst (Among (get_or (take (length input / 8) xs) i past_end)) f.are (at-among (take (length input / 8) xs) i past_end h)),
+        λ i h. noted-few input p _ (subst (Among (get_or (take (length input / 8) xs) i record_past_end)) f.are (at-among (take (length input / 8) xs) i record_past_end h)),
       )
 
   reported-fine : (lines : List Line) → reported input out work lines ≡ over (Report.lines es) lines

@@ -108,7 +108,7 @@ fn judge_by<E: Engine>(
 }
 
 // Judges a recording by the second engine, and leaves what it found: each record with its transaction, and at the front of `order` the transactions
-// that the answer names.
+// that the answer names. Both are lent, as there is no heap.
 pub fn judge_into(
     input: &[u8],
     out: &mut [u8],

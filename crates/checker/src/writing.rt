@@ -1,80 +1,48 @@
 // What is written for an answer: the serial trace, or the cycle; and the lines.
-ghost use Rattle.std.specs.Prelude.{◌+◌, ◌*◌, ◌≤◌, ◌≡◌, map, length, get_or};
+ghost use Rattle.std.specs.Prelude.{◌+◌, ◌*◌, ◌≤◌, ◌≡◌, map, length};
 ghost use Rattle.record.specs.Record.{in_two};
 ghost use Rattle.lists.specs.Lists.{each, over, written_at};
-ghost use Rattle.checker.specs.Writing.{Few, bytes_of, line_of, no_record, Linked};
+ghost use Rattle.checker.specs.Writing.{Few, bytes_of, line_of};
+ghost use Rattle.naming.specs.Chains.{Linked};
 
 use crate::Line;
 use graph::Labelled;
+use naming::Chains;
 
-// The records linked by transaction: for each transaction its first record, and for each record the next of its transaction. 1,024 is none: an
-// `Option` takes twice the room.
-#[derive(Drop)]
-struct Chains {
-    firsts: [u16; 512],
-    nexts: [u16; 1024],
+// Writes the records of transaction `a` from place `n` on; where they end.
+fn write_chain(chains: &Chains, records: &[Labelled], a: u16, out: &mut [u8], n: usize) -> usize
+    requires linked { (length records.now ≤ 1024) × Few records.now × Linked records.now 0 chains.now.firsts chains.now.nexts }
+    requires room { n + length (bytes_of records.now a) ≤ length out.old }
+    ensures { let new = bytes_of records.now a in
+        (result ≡ n + length new) × (out.new ≡ written_at out.old n new) }
+{
+    let mut end = n;
+    let mut i = chains.first_of(a) as usize;
+    // No iterator: it follows the links.
+    while i < records.len() {
+        end += record::encode(records[i].event, &mut out[end..]);
+        i = chains.next_of(i) as usize;
+    }
+    end
 }
 
-impl Chains {
-    // Links the records, the last first.
-    fn link(records: &[Labelled]) -> Self
-        requires { (length records.now ≤ 1024) × Few records.now }
-        ensures { Linked records.now result.firsts result.nexts }
-    {
-        let mut chains = Chains {
-            firsts: [1024; 512],
-            nexts: [1024; 1024],
-        };
-        for i in (0..records.len()).rev() {
-            let a = records[i].transaction as usize;
-            chains.nexts[i] = chains.firsts[a];
-            chains.firsts[a] = i as u16;
-        }
-        chains
-    }
-
-    // The first record of transaction `a`.
-    fn first_of(&self, a: u16) -> u16
-        ensures { result ≡ get_or self.now.firsts a no_record }
-    {
-        self.firsts.get(a as usize).copied().unwrap_or(1024)
-    }
-
-    // Writes the records of transaction `a` from place `n` on; where they end.
-    fn write(&self, records: &[Labelled], a: u16, out: &mut [u8], n: usize) -> usize
-        requires linked { (length records.now ≤ 1024) × Linked records.now self.now.firsts self.now.nexts }
-        requires room { n + length (bytes_of records.now a) ≤ length out.old }
-        ensures { let new = bytes_of records.now a in
-            (result ≡ n + length new) × (out.new ≡ written_at out.old n new) }
-    {
-        let mut end = n;
-        let mut i = self.first_of(a) as usize;
-        // No iterator: it follows the links.
-        while i < records.len() {
-            end += record::encode(records[i].event, &mut out[end..]);
-            i = self.nexts[i] as usize;
-        }
-        end
-    }
-
-    // The line of transaction `a`: its number, its thread, its first record.
-    fn line(&self, records: &[Labelled], a: u16) -> Line
-        requires { (length records.now ≤ 1024) × Linked records.now self.now.firsts self.now.nexts }
-        ensures { result ≡ line_of records.now a }
-    {
-        let first = self.first_of(a);
-        match records.get(first as usize) {
-            Some(x) => Line {
-                transaction: a,
-                thread: x.event.thread,
-                first,
-            },
-            None => Line {
-                transaction: a,
-                thread: 0,
-                first: 0,
-            },
-        }
+// The line of transaction `a`: its number, its thread, its first record.
+fn line(chains: &Chains, records: &[Labelled], a: u16) -> Line
+    requires { (length records.now ≤ 1024) × Few records.now × Linked records.now 0 chains.now.firsts chains.now.nexts }
+    ensures { result ≡ line_of records.now a }
+{
+    let first = chains.first_of(a);
+    match records.get(first as usize) {
+        Some(x) => Line {
+            transaction: a,
+            thread: x.event.thread,
+            first,
+        },
+        None => Line {
+            transaction: a,
+            thread: 0,
+            first: 0,
+        },
     }
 }
 
@@ -87,7 +55,7 @@ pub fn write_serial(records: &[Labelled], order: &[u16], out: &mut [u8])
     let chains = Chains::link(records);
     let mut n = 0;
     for &a in order {
-        n = chains.write(records, a, out, n);
+        n = write_chain(&chains, records, a, out, n);
     }
 }
 
@@ -110,6 +78,6 @@ pub fn write_lines(records: &[Labelled], order: &[u16], lines: &mut [Line])
 {
     let chains = Chains::link(records);
     for (k, &a) in order.iter().enumerate() {
-        lines[k] = chains.line(records, a);
+        lines[k] = line(&chains, records, a);
     }
 }

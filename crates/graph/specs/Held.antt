@@ -9,6 +9,10 @@ use Rattle.graph.specs.declared.Labelled.{Labelled}
 abbrev pub past_end : Event
 past_end = record { thread = 0; op = Read 0 0 }
 
+-- and for a record
+abbrev pub record_past_end : Labelled
+record_past_end = record { transaction = 0; event = past_end }
+
 -- an operation with its transaction
 abbrev pub labelled_as : ℕ → Event → Labelled
 labelled_as t e = record { transaction = t; event = e }

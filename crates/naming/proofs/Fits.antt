@@ -16,7 +16,8 @@ use Rattle.graph.specs.declared.Labelled.{Labelled}
 use Rattle.graph.specs.Transactions.{transaction_limit, work_size}
 use Rattle.graph.specs.Edges.{edges}
 use Rattle.graph.specs.Serial.{thread_of}
-use Rattle.naming.specs.Naming.{order_by, walk_by, past_end, transaction_at, cycle_by, fits, named_by}
+use Rattle.graph.specs.Held.{record_past_end}
+use Rattle.naming.specs.Naming.{order_by, walk_by, transaction_at, cycle_by, fits, named_by}
 
 -- ---- nothing is named where they don't fit
 
@@ -76,7 +77,7 @@ module _ (xs : List Labelled) (n : ℕ) (work : List ℕ) (few : n ≤ transacti
 -- of the records those up to record i, which is of t
 module _ (xs : List Labelled) (n i t : ℕ) (work : List ℕ) (few : n ≤ transaction_limit) (long : work_size ≤ length work) (inside : i < length xs) (is : t ≡ transaction_at xs i) where
   last-is : t ≡ last xs n i work
-  last-is = is ∙ sym (get_or-map (λ x. x.transaction) xs i past_end)
+  last-is = is ∙ sym (get_or-map (λ x. x.transaction) xs i record_past_end)
 
   named-last : named_by xs n (suc i) work ≡ cycle_by xs n i work
   named-last = named-cycle xs n work few long i inside

@@ -20,7 +20,8 @@ use Rattle.graph.specs.Edges.{makes, edges_of, edges}
 use Rattle.lists.proofs.Tests.{by, by-same, T_of, T-is, and_left, and_right}
 use Rattle.lists.proofs.Lists.{from-among, from-bound, from_le, some-none, some-has, Holds, some_at}
 use Rattle.graph.proofs.Ends.{of-true, of-false}
-use Rattle.naming.specs.Naming.{rank, candidate, past_end, record_at, transaction_at, meets, lowest_by, next_by}
+use Rattle.graph.specs.Held.{record_past_end}
+use Rattle.naming.specs.Naming.{rank, candidate, record_at, transaction_at, meets, lowest_by, next_by}
 
 pub rank_is : (t b : ℕ) → b ≡ t → rank t b ≡ 0
 rank_is t b e = ap (λ p. cond p 0 (suc b)) (eq-eqb b t e)
@@ -166,7 +167,7 @@ module _ (xs : List Labelled) (work : List ℕ) (t : ℕ) where
     passes = ap (λ k. lowest_after i k low) (add-one j)
 
     stands : lowest_after i j low ≡ lowest_by work t (transaction_at xs i) (edges_of (record_at xs i) (record_at xs j ∷ drop (suc j) xs)) low
-    stands = ap (λ ys. lowest_by work t (transaction_at xs i) (edges_of (record_at xs i) ys) low) (drop-cons xs j past_end h)
+    stands = ap (λ ys. lowest_by work t (transaction_at xs i) (edges_of (record_at xs i) ys) low) (drop-cons xs j record_past_end h)
 
     pub passed_none : makes (record_at xs i) (record_at xs j) ≡ false → lowest_after i (j + 1) low ≡ lowest_after i j low
     passed_none e = passes ∙ sym (stands ∙ later-none work t (record_at xs i) (record_at xs j) (drop (suc j) xs) low e)
@@ -212,7 +213,7 @@ module _ (xs : List Labelled) (work : List ℕ) (t : ℕ) where
   unfolding edges
   from-split a i low h =
       let later : List Labelled = drop (suc i) xs in
-      ap (λ xs. lowest_by work t a (edges xs) low) (drop-cons xs i past_end h)
+      ap (λ xs. lowest_by work t a (edges xs) low) (drop-cons xs i record_past_end h)
       ∙ lowest-append work t a (edges_of (record_at xs i) later) (edges later) low
       ∙ sym (ap (λ k. lowest_from a k (lowest_by work t a (edges_of (record_at xs i) later) low)) (add-one i))
 
@@ -227,7 +228,7 @@ module _ (xs : List Labelled) (work : List ℕ) (t : ℕ) where
       sym (from-split a i low h ∙ ap (lowest_from a (i + 1)) (none_of work t (record_at xs i) (drop (suc i) xs) a low (ne_eqb (transaction_at xs i) a other)))
 
   -- all records passed by
-  from_all : (a i low : ℕ) → length xs ≤ i → lowest_from a i low ≡ low
+  pub from_all : (a i low : ℕ) → length xs ≤ i → lowest_from a i low ≡ low
   unfolding lowest_by edges
   from_all a i low h = ap (λ xs. lowest_by work t a (edges xs) low) (drop_of_length-le xs h)
 

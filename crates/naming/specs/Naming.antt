@@ -2,11 +2,11 @@
 -- is taken to say that a path leads from transaction a to d. Where it does, they are those of `graph/specs/Named` (`proofs/Right`).
 -- A reader of the public promises need not read this.
 use Rattle.std.specs.Prelude.{ℕ, zero, suc, ◌-◌, ◌<◌, ◌≤◌, ◌≡◌, Bool, true, false, cond, not, ◌&&◌, List, [], ◌∷◌, map, length, get_or, take, replicate, eqb, ltb, leb, Option, None, Some}
-use Rattle.record.specs.declared.Op.TheVariants.{Read}
 use Rattle.lists.specs.Lists.{some_of, first_of, from, below}
 use Rattle.trace.specs.Paths.{Edge}
 use Rattle.rows.specs.Bits.{has, marked, beyond}
 use Rattle.graph.specs.declared.Labelled.{Labelled}
+use Rattle.graph.specs.Held.{record_past_end}
 use Rattle.graph.specs.Transactions.{transaction_limit, work_size}
 use Rattle.graph.specs.Edges.{makes, edges}
 use Rattle.graph.specs.Serial.{thread_of}
@@ -98,25 +98,11 @@ named_by xs n p work =
 
 -- ---- by what the cycle is followed: of the records, those from record i on
 
--- what stands for a record past the end
-abbrev pub past_end : Labelled
-past_end = record { transaction = 0; event = record { thread = 0; op = Read 0 0 } }
-
 abbrev pub record_at : List Labelled → ℕ → Labelled
-record_at xs i = get_or xs i past_end
+record_at xs i = get_or xs i record_past_end
 
 abbrev pub transaction_at : List Labelled → ℕ → ℕ
 transaction_at xs i = (record_at xs i).transaction
-
--- the first record of transaction a; their number, where there is none
-unfoldable pub record_from : List Labelled → ℕ → ℕ → ℕ
-record_from xs a i = first_of (λ k. eqb (transaction_at xs k) a) (length xs) (from i (length xs - i))
-
--- The records of each of 512 transactions are linked: its first, and after record k the next one of its own
-abbrev pub Linked : List Labelled → ℕ → List ℕ → List ℕ → Type 0
-Linked xs i firsts nexts =
-    ((a : ℕ) → a < transaction_limit → get_or firsts a 0 ≡ record_from xs a i)
-    × ((k : ℕ) → i ≤ k → k < length xs → transaction_at xs k < transaction_limit → get_or nexts k 0 ≡ record_from xs (transaction_at xs k) (suc k))
 
 -- whether record i has an edge to transaction t
 unfoldable pub meets : List Labelled → ℕ → ℕ → Bool

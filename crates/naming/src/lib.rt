@@ -1,6 +1,7 @@
 // The transactions that an answer names, by the rows that an engine left in the work area: all in serial order, or the cycle.
 #![tactic(auto)]
 
+mod chains;
 mod cycle;
 mod order;
 
@@ -9,12 +10,13 @@ ghost use Rattle.lists.specs.Lists.{over};
 ghost use Rattle.ancestors.specs.Search.{prefix_of};
 ghost use Rattle.naming.specs.Naming.{named_by};
 
+pub use chains::Chains;
 use graph::Labelled;
 
-// Writes the transactions that the rows name to the front of `order`, and says how many: all n in serial order where no record closes a cycle, or else
-// the cycle of the records up to the one that does. Of the records the first 1,024 are looked at. They name none where there are over 512 transactions,
-// where the work area has fewer than 4,096 numbers, where the closing record isn't among the records, or where its transaction isn't one of the n or
-// its row hasn't its own bit.
+// Writes the transactions that the rows name to the front of `order`, which is lent, as there is no heap, and says how many: all n in serial order
+// where no record closes a cycle, or else the cycle of the records up to the one that does. Of the records the first 1,024 are looked at. They name
+// none where there are over 512 transactions, where the work area has fewer than 4,096 numbers, where the closing record isn't among the records, or
+// where its transaction isn't one of the n or its row hasn't its own bit.
 pub fn name(
     records: &[Labelled],
     n: u16,

@@ -18,7 +18,7 @@ fn push_field(line: &mut Short<24>, n: u16)
     line.extend(digits_of(n).as_slice());
 }
 
-// What the kind has after its name: a target and a value, a target, or nothing.
+// What the kind has after its name: a target and a value, a target, or nothing. By the kind's number, as Line.field_count.
 fn push_fields(line: &mut Short<24>, op: Op)
     requires { length line.old ≤ 12 }
     ensures { (line.new ≡ line.old ++ spaced_out (fields op)) × (length line.new ≤ length line.old + 10) }

@@ -7,6 +7,7 @@ use lib.ListN.{take, set, length-map}
 use Rattle.lists.specs.Lists.{over}
 use Rattle.lists.proofs.Lists.{map_at, over-next}
 use Rattle.checker.specs.declared.Line.{Line}
+use Rattle.naming.proofs.Linking.{linked-all}
 use Rattle.checker.specs.Writing.{line_of}
 use Rattle.checker.proofs.Linking.{line}
 use Rattle.checker.proofs.writing.write_lines.Goals as goal
@@ -14,6 +15,12 @@ use Rattle.checker.proofs.writing.write_lines.Goals as goal
 pub loop-k-init : goal.loop-k-init
 unfolding over
 loop-k-init c = refl
+
+pub line-requires : goal.line-requires
+line-requires c =
+    let few = c.requires.few in
+    let chains = c.link-chains in
+    (few.0, few.1, linked-all c.args.records.now few.0 chains.result.firsts chains.result.nexts chains.ensures)
 
 pub loop-k-preserved : goal.loop-k-preserved
 loop-k-preserved c =

@@ -8,7 +8,7 @@ use Rattle.naming.proofs.cycle.Walk.after.Given as goal
 
 abbrev pub invariant-loop-i : goal.invariant-loop-i
 invariant-loop-i l =
-    (l.i ≤ length l.self.records.now) × (l.i < length l.self.records.now → transaction_at l.self.records.now l.i ≡ l.a) × (l.lowest ≤ 512)
+    (l.i < length l.self.records.now → transaction_at l.self.records.now l.i ≡ l.a) × (l.lowest ≤ 512)
     × (lowest_from l.self.records.now l.self.work.now l.self.t l.a l.i (suc l.lowest) ≡ lowest_from l.self.records.now l.self.work.now l.self.t l.a 0 513)
 
 abbrev pub decreases-loop-i : goal.decreases-loop-i

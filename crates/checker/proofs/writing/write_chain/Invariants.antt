@@ -1,13 +1,14 @@
--- `checker::writing::Chains::write` meets its contract: what is written and the rest of the chain make the whole.
+-- `checker::writing::write_chain` meets its contract: what is written and the rest of the chain make the whole.
 use Prim.Native.Nat.{ℕ, ◌-◌, ◌≤◌}
 use mathlib.Core.Path.{◌≡◌}
 use lib.ListN.{length, drop}
 use Rattle.record.specs.Record.{encoded}
 use Rattle.lists.specs.Lists.{each}
 use Rattle.graph.specs.Serial.{events_of}
-use Rattle.checker.specs.Writing.{bytes_of, first_from}
+use Rattle.checker.specs.Writing.{bytes_of}
+use Rattle.naming.specs.Chains.{first_from}
 use Rattle.checker.proofs.Written.{Left}
-use Rattle.checker.proofs.writing.Chains.write.Given as goal
+use Rattle.checker.proofs.writing.write_chain.Given as goal
 
 abbrev pub invariant-loop-i : goal.invariant-loop-i
 invariant-loop-i l =
