@@ -1,24 +1,29 @@
 // A few bytes, kept where they stand: the project has no heap.
 #![tactic(auto)]
 
-ghost use Rattle.std.specs.Prelude.{◌≡◌, ℕ, ◌+◌, ◌<◌, ◌≤◌, List, [], ◌∷◌, ◌++◌, length, take};
+ghost use Rattle.std.specs.Prelude.{◌≡◌, ℕ, ◌+◌, ◌-◌, ◌<◌, ◌≤◌, List, [], ◌∷◌, ◌++◌, length, take, drop, replicate};
+ghost use Rattle.short.specs.Zeros.{filled-back, length-back};
 
 use std::marker::Model;
 
-// At most N bytes: the first `len` of the buffer. What stands after them says nothing.
-#[derive(Drop)]
+// At most N bytes: the first `len` of the buffer. The others are 0.
+#[derive(Clone, Copy)]
 pub struct Short<const N: usize> {
     bytes: [u8; N],
     len: usize,
 }
 
-// Clauses see the bytes alone.
+// Clauses see the bytes alone, and these say what the whole buffer holds, since the others are 0.
 impl<const N: usize> Model for Short<N> {
     ghost Value = { List ℕ };
 
     ghost view = { λ s. take s.len s.bytes };
 
-    ghost invariant = { λ s. s.len ≤ N };
+    ghost invariant = { λ s. (s.len ≤ N) × (length s.bytes ≡ N) × (drop s.len s.bytes ≡ replicate (N - s.len) 0) };
+
+    ghost inverse = { λ l. record { bytes = l ++ replicate (N - length l) 0; len = length l } };
+
+    ghost inverse_ok = { λ s h i. record { bytes = filled-back N s.bytes s.len h i; len = length-back N s.bytes s.len h i } };
 }
 
 impl<const N: usize> Short<N> {
