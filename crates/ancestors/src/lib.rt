@@ -61,6 +61,13 @@ impl Joined {
     }
 }
 
+// The greater of two answers that are held as numbers.
+pub fn more(x: u8, y: u8) -> u8
+    ensures { result ≡ Sources.more x y }
+{
+    x.max(y)
+}
+
 // Joins row a into each of the first n rows that has bit a.
 pub fn spread(work: &mut [u64], n: u16, a: u16)
     ensures { work.new ≡ spread_to n work.old a }
