@@ -38,7 +38,7 @@ pub fn conflicts(a: Event, b: Event) -> bool
 }
 
 impl Labelled {
-    // What stands in an array of records before any is noted.
+    // What stands in an array of records before any is noted: a read of zeros, so that the array is all zeros.
     pub fn unseen() -> Self
         ensures { result ≡ unseen }
     {
@@ -46,7 +46,7 @@ impl Labelled {
             transaction: 0,
             event: Event {
                 thread: 0,
-                op: Op::Yield,
+                op: Op::Read { var: 0, value: 0 },
             },
         }
     }
