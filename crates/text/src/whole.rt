@@ -15,7 +15,13 @@ use record::{Refusal, decode, encode};
 pub fn line_feeds(text: &[u8]) -> usize
     ensures { result ≡ feeds text.now }
 {
-    text.iter().filter(|&&c| c == b'\n').count()
+    let mut n = 0;
+    for c in text {
+        if *c == b'\n' {
+            n += 1;
+        }
+    }
+    n
 }
 
 // The first line without the form.
