@@ -13,7 +13,7 @@ use Rattle.naming.proofs.cycle.Walk.after.Goals as goal
 pub loop-i-init : goal.loop-i-init
 loop-i-init c =
     let w = c.args.self.now in
-    let reached = first-reaches w.records.now w.few c.args.a w.chains.firsts w.chains.nexts w.linked c.requires c.first_of-i.result c.first_of-i.ensures in
+    let reached = first-reaches w.records.now w.few c.args.a w.chains.now.firsts w.chains.now.nexts w.linked c.requires c.first_of-i.result c.first_of-i.ensures in
     (reached.of-a, omega arith, reached.same w.work.now w.t 513)
 
 pub returns-then-meets : goal.returns-then-meets
@@ -29,7 +29,7 @@ pub loop-i-smaller : goal.loop-i-smaller
 loop-i-smaller c =
     let w = c.args.self.now in
     let in-i = c.loop-i-test.true in
-    let reached = next-reaches w.records.now w.few c.args.a w.chains.firsts w.chains.nexts w.linked c.requires c.loop-i.i in-i (c.loop-i.invariant.0 in-i) c.next_of-i.result c.next_of-i.ensures in
+    let reached = next-reaches w.records.now w.few c.args.a w.chains.now.firsts w.chains.now.nexts w.linked c.requires c.loop-i.i in-i (c.loop-i.invariant.0 in-i) c.next_of-i.result c.next_of-i.ensures in
     omega (arith, in-i, reached.higher)
 
 pub loop-i-preserved : goal.loop-i-preserved
@@ -42,7 +42,7 @@ loop-i-preserved c =
     let i = c.loop-i.i in
     let in-i = c.loop-i-test.true in
     let r = c.lowest_from-lowest.result in
-    let reached = next-reaches xs w.few a w.chains.firsts w.chains.nexts w.linked c.requires i in-i (c.loop-i.invariant.0 in-i) c.next_of-i.result c.next_of-i.ensures in (
+    let reached = next-reaches xs w.few a w.chains.now.firsts w.chains.now.nexts w.linked c.requires i in-i (c.loop-i.invariant.0 in-i) c.next_of-i.result c.next_of-i.ensures in (
       reached.of-a,
       omega (arith, c.lowest_from-lowest.ensures.0, c.loop-i.invariant.1),
       reached.same rows t (suc r) ∙ ap (λ k. lowest_from xs rows t a k (suc r)) (sym (add-one i))

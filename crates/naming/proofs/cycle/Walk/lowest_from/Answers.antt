@@ -51,7 +51,7 @@ returns-then-lowest-self c =
     let j = c.loop-j.j in
     let low = c.loop-j.lowest in
     let below : low ≤ 512 = omega (arith, c.requires.1, c.loop-j.invariant.0) in
-    let passed : low ≤ get_or w.lowest j 0 = c.if-lowest-self.true in (
+    let passed : low ≤ get_or w.lowest.now j 0 = c.if-lowest-self.true in (
       c.loop-j.invariant.0,
       sym (passed-rest xs rows t (length xs - j) i j (suc low) (omega arith)
           (λ k le lt. by-same (transaction_at xs k) t

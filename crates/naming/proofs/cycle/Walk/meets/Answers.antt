@@ -14,7 +14,7 @@ use Rattle.naming.proofs.cycle.Walk.meets.Goals as goal
 pub loop-j-init : goal.loop-j-init
 loop-j-init c =
     let w = c.args.self.now in
-    let reached = first-reaches w.records.now w.few w.t w.chains.firsts w.chains.nexts w.linked w.in_t c.first_of-j.result c.first_of-j.ensures in
+    let reached = first-reaches w.records.now w.few w.t w.chains.now.firsts w.chains.now.nexts w.linked w.in_t c.first_of-j.result c.first_of-j.ensures in
     (reached.of-a, λ k lt h in-k. meets-other w.records.now w.t c.args.i k (reached.none k (omega arith) h in-k))
 
 pub returns-then-makes_edge : goal.returns-then-makes_edge
@@ -27,7 +27,7 @@ pub loop-j-smaller : goal.loop-j-smaller
 loop-j-smaller c =
     let w = c.args.self.now in
     let in-j = c.loop-j-test.true in
-    let reached = next-reaches w.records.now w.few w.t w.chains.firsts w.chains.nexts w.linked w.in_t c.loop-j.j in-j (c.loop-j.invariant.0 in-j) c.next_of-j.result c.next_of-j.ensures in
+    let reached = next-reaches w.records.now w.few w.t w.chains.now.firsts w.chains.now.nexts w.linked w.in_t c.loop-j.j in-j (c.loop-j.invariant.0 in-j) c.next_of-j.result c.next_of-j.ensures in
     omega (arith, in-j, reached.higher)
 
 pub loop-j-preserved : goal.loop-j-preserved
@@ -38,7 +38,7 @@ loop-j-preserved c =
     let i = c.args.i in
     let j = c.loop-j.j in
     let in-j = c.loop-j-test.true in
-    let reached = next-reaches xs w.few t w.chains.firsts w.chains.nexts w.linked w.in_t j in-j (c.loop-j.invariant.0 in-j) c.next_of-j.result c.next_of-j.ensures in (
+    let reached = next-reaches xs w.few t w.chains.now.firsts w.chains.now.nexts w.linked w.in_t j in-j (c.loop-j.invariant.0 in-j) c.next_of-j.result c.next_of-j.ensures in (
       reached.of-a,
       λ k lt h in-k. by-same k j
           (λ e. elim c.else-i-j.branch [
