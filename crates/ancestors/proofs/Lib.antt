@@ -3,3 +3,4 @@ pub mod Gathering
 pub mod Joining
 pub mod Right
 pub mod Searching
+pub mod Numbers

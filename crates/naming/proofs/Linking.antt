@@ -5,13 +5,14 @@ use mathlib.Core.Path.{◌≡◌, refl, sym, ap, ◌∙◌, subst}
 use mathlib.Core.Logic.{◌≢◌}
 use mathlib.Core.Bool.{true, false}
 use mathlib.Core.List.{List, ◌∷◌}
-use lib.Dec.{eqb}
+use lib.Dec.{eqb, ltb}
 use lib.ListN.{length, get_or, set, drop, drop_of_length-le, length-set, length-replicate, replicate, take}
-use lib.Seq.{get_or-set_same, get_or-set_other, drop-cons, take_all}
+use lib.Seq.{ext_get_or, get_or-set_same, get_or-set_other, drop-cons, take_all}
 use Rattle.std.proofs.lemmas.List.{get_or_default}
-use borrow.Author.Tests.{eq-eqb, ne_eqb}
-use Rattle.lists.proofs.Tests.{by-same}
+use borrow.Author.Tests.{eq-eqb, ne_eqb, ltb-true, ltb-false}
+use Rattle.lists.proofs.Tests.{by, by-same}
 use Rattle.graph.specs.declared.Labelled.{Labelled}
+use Rattle.graph.specs.Transactions.{transaction_limit}
 use Rattle.graph.specs.Held.{record_past_end}
 use Rattle.naming.specs.Naming.{record_at, transaction_at}
 use Rattle.naming.specs.Chains.{no_record, first_in, first_from, Within, Linked}
@@ -95,3 +96,24 @@ module _ (xs : List Labelled) where
               (λ e. absurd (no (subst (Within xs i) e (omega arith, h, few))))
               (λ d. get_or-set_other nexts i k v no_record (λ e. d (sym e)) ∙ s.none-is k (λ w. no (omega (arith, w.0), w.1, w.2)));
         }
+
+-- ---- Two answers of linking the same records are the same
+
+module _ (xs : List Labelled) (f n g m : List ℕ) (a : Linked xs 0 f n) (b : Linked xs 0 g m) where
+  next-same : (k : ℕ) → get_or n k no_record ≡ get_or m k no_record
+  next-same k =
+      let none : (Within xs 0 k → ⊥) → get_or n k no_record ≡ get_or m k no_record = λ no. a.none-is k no ∙ sym (b.none-is k no) in
+      by (ltb k (length xs))
+      (λ p.
+      by (ltb (transaction_at xs k) transaction_limit)
+      (λ q.
+      let here : Within xs 0 k = (omega arith, ltb-true k (length xs) p, ltb-true (transaction_at xs k) transaction_limit q) in
+      a.next-is k here ∙ sym (b.next-is k here))
+      (λ q. none (λ w. absurd (omega (arith, w.2, ltb-false (transaction_at xs k) transaction_limit q)))))
+      (λ p. none (λ w. absurd (omega (arith, w.1, ltb-false k (length xs) p))))
+
+  pub linked-same : (f ≡ g) × (n ≡ m)
+  linked-same = (
+    ext_get_or no_record f g (a.firsts-long ∙ sym b.firsts-long) (λ i l. let few : i < transaction_limit = omega (arith, l, a.firsts-long) in a.first-is i few ∙ sym (b.first-is i few)),
+    ext_get_or no_record n m (a.nexts-long ∙ sym b.nexts-long) (λ i l. next-same i),
+  )

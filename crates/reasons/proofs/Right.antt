@@ -14,7 +14,7 @@ use Rattle.record.specs.Faults.{Refusal}
 use Rattle.record.specs.Answers as Answers
 use Rattle.record.specs.Answers.{refused_as}
 use Rattle.record.specs.declared.Refusal.{Refusal as Given}
-use Rattle.record.proofs.Numbers.{refusals-same}
+use Rattle.record.proofs.Numbers.{told-same}
 use Rattle.graph.specs.Violation.{shortest, cycle_of}
 use Rattle.lists.proofs.Tests.{by}
 use Rattle.looking.specs.Refusals.{events}
@@ -160,14 +160,5 @@ told-by (Ok (Some c)) = ap (λ r. Ok (Some (record { first = c.first; second = c
 told-by (Ok None) = refl
 told-by (Err r) = refl
 
--- what code gives, with its refusal in numbers
-given-same : (t u : Result (Option Cause) Given) → Answers.told t ≡ Answers.told u → t ≡ u
-given-same (Ok x) (Ok y) e = cc
-given-same (Ok x) (Err s) e = cc
-given-same (Err r) (Ok y) e = cc
-given-same (Err r) (Err s) e =
-    let same : Answers.refusal_of r ≡ Answers.refusal_of s = cc in
-    ap Err (refusals-same r s (ap (λ x. x.number) same) (ap (λ x. x.place) same))
-
 pub told_same : (t u : Result (Option Cause) Given) → numbers (Answers.told t) ≡ numbers (Answers.told u) → t ≡ u
-told_same t u e = given-same t u (sym (told-by (Answers.told t)) ∙ ap told_by e ∙ told-by (Answers.told u))
+told_same t u e = told-same t u (sym (told-by (Answers.told t)) ∙ ap told_by e ∙ told-by (Answers.told u))

@@ -15,9 +15,10 @@ use Rattle.record.specs.declared.Refusal.{Refusal as Given}
 use Rattle.record.specs.Answers.{number, refusal_of}
 use Rattle.record.specs.Record.{encoded, decoded, records_of}
 use Rattle.record.proofs.Laws.{number-some}
+use Rattle.record.proofs.Numbers.{refusals-same}
 use Rattle.text.specs.Line.{line_of, line_read}
 use Rattle.text.specs.File.{ending, done, refused, first_refused, events, feeds, lines, read_checks, read_text, write_checks, write_text}
-use Rattle.text.specs.Steps.{all_bytes}
+use Rattle.text.specs.Steps.{refusal_in, all_bytes}
 use Rattle.text.proofs.Words.{lines-together}
 use Rattle.text.proofs.Files.{none_read, line-counted, text-written, feeds-written, length-records, read-size, read-line-refused, read_done, write-size, write-record-refused, write-unfit, write_done, read-sizes, write-sizes}
 
@@ -31,6 +32,13 @@ ends-refused r n place out h = ap (λ (r : Refusal). record { answer = record { 
 pub passed : {A : Type 0} (r : Result A Given) (f : Given) → IsErrAnd r (λ e. e ≡ f) → r ≡ Err f
 passed (Ok x) f h = absurd h
 passed (Err e) f h = ap Err h
+
+-- what a pass over the parts says of its refusal tells its answer
+pub passes-same : (a b : Result Unit Given) → refusal_in a ≡ refusal_in b → a ≡ b
+passes-same (Ok u) (Ok v) e = refl
+passes-same (Ok u) (Err s) e = absurd (number-some s.fault (sym (ap (λ x. x.number) e)))
+passes-same (Err r) (Ok v) e = absurd (number-some r.fault (ap (λ x. x.number) e))
+passes-same (Err r) (Err s) e = ap Err (refusals-same r s (ap (λ x. x.number) e) (ap (λ x. x.place) e))
 
 ends-done : (n : ℕ) (bytes old out : List ℕ) → n ≡ length bytes → out ≡ over bytes old → ending (Ok n) out ≡ done bytes old
 unfolding done
