@@ -135,6 +135,10 @@ module _ (xs : List Labelled) (n prefix : ℕ) (work out : List ℕ) (r : Ready 
       ap₂ (λ ys m. named_by ys m prefix work) (take_all 1024 xs (records-most xs r.sound) ∙ r.are) r.counted
       ∙ named-right es r.sound.few work r.long prefix work r.found small
 
+  -- it stands at the front of what it was written over
+  pub front-size : (k : ℕ) (order order' : List ℕ) → k ≡ length new → order' ≡ over new order → k ≡ length (take k order')
+  front-size k order order' k-is order_is = k-is ∙ sym (ap length (ap₂ take k-is order_is ∙ over-front new order))
+
   pub ready-named : (k : ℕ) (order order' : List ℕ) → k ≡ length new → order' ≡ over new order → Named xs (take k order') prefix out
   ready-named k order order' k-is order_is = record {
     are = r.are;

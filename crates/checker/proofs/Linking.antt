@@ -100,6 +100,10 @@ met k (x ∷ xs) a none some = by-same x.transaction a
       place = record-miss x xs a t k ∙ s.place ∙ omega arith;
     })))
 
+-- the first, where there is one, is the number of a record
+pub first-low : (xs : List Labelled) (a f : ℕ) → f ≡ first_from xs a 0 → f < no_record → f < length xs
+first-low xs a f is h = met 0 xs a (λ n. absurd (omega (arith, is, n.first, h))) (λ m s. omega (arith, is, s.first, s.inside))
+
 -- ---- Following the links
 
 -- any transaction's first record, by the links

@@ -1,7 +1,7 @@
 -- Laws of what is written, piece after piece.
 use Prim.Native.Nat.{ℕ, suc, ◌+◌, ◌*◌, ◌≤◌, ◌<◌}
 use native.Mathlib.Omega.{arith}
-use native.Mathlib.Nat.{add_comm, mul-suc, mul-zero}
+use native.Mathlib.Nat.{zero-add, add_comm, mul-suc, mul-zero}
 use native.Mathlib.Numerals.{add-one}
 use mathlib.Core.Path.{◌≡◌, refl, sym, ap, ap₂, ◌∙◌, subst}
 use mathlib.Core.List.{List, [], ◌∷◌, ◌++◌, append_assoc}
@@ -85,9 +85,19 @@ module _ (f : ℕ → List ℕ) (l out₀ : List ℕ) where
       subst (Going f l out₀ out' end') (sym (add-one k))
       (left-more out₀ 0 (each f l) out end (f (get_or l k 0)) (each_from f (suc k) l) out' end' (omega arith) (subst (Left out₀ 0 (each f l) out end) (each_next k h) g) p q)
 
+  pub going-place : (out : List ℕ) (end k : ℕ) → length l ≤ k → Going f l out₀ out end k → end ≡ length (each f l)
+  going-place out end k h g =
+      left-place out₀ 0 (each f l) out end (subst (Left out₀ 0 (each f l) out end) (each_none k h) g) ∙ zero-add (length (each f l))
+
   pub going_end : (out : List ℕ) (end k : ℕ) → length l ≤ k → Going f l out₀ out end k → out ≡ over (each f l) out₀
   going_end out end k h g =
       left-made out₀ 0 (each f l) out end (subst (Left out₀ 0 (each f l) out end) (each_none k h) g) ∙ written_start out₀ (each f l)
+
+-- the same of each number below n
+pub each_within : (f g : ℕ → List ℕ) (n : ℕ) (l : List ℕ) → ((k : ℕ) → k < length l → get_or l k 0 < n) → ((i : ℕ) → i < n → f i ≡ g i) → each f l ≡ each g l
+unfolding each
+each_within f g n [] low same = refl
+each_within f g n (x ∷ l) low same = ap₂ ◌++◌ (same x (low 0 (omega arith))) (each_within f g n l (λ k h. low (suc k) (omega arith)) same)
 
 -- each has w numbers
 pub length-each : {A : Type 0} (f : A → List ℕ) (w : ℕ) → ((a : A) → length (f a) ≡ w) → (l : List A) → length (each f l) ≡ w * length l

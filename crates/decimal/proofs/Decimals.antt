@@ -157,6 +157,9 @@ reads limit w h =
     let c = and-true (all_of is_digit w) (leb (value_of w) limit) b.1 in
     record { some = leb-true 1 (length w) a.0; led = not-true (zero_led w) b.0; all_digits = c.0; within = leb-true (value_of w) limit c.1 }
 
+pub number_digits : (limit : ℕ) (w : List ℕ) → is_number limit w ≡ true → all_of is_digit w ≡ true
+number_digits limit w h = (reads limit w h).all_digits
+
 pub number-within : (limit : ℕ) (w : List ℕ) → is_number limit w ≡ true → value_of w ≤ limit
 number-within limit w h = (reads limit w h).within
 

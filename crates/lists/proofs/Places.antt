@@ -6,7 +6,7 @@ use native.Mathlib.Nat.{add-zero, zero-add, lt_of_not-le}
 use mathlib.Core.Path.{◌≡◌, refl, sym, ap, ap₂, ◌∙◌}
 use mathlib.Core.Logic.{◌≢◌}
 use mathlib.Core.List.{List, [], ◌∷◌, ◌++◌, append_assoc, append-nil}
-use lib.ListN.{length, get_or, set, take, drop, replicate, length-append, length-drop, take-append-drop, drop_of_length-le, get_or-eq_default}
+use lib.ListN.{length, get_or, set, take, drop, replicate, length-set, length-append, length-drop, take-append-drop, drop_of_length-le, get_or-eq_default}
 use lib.Seq.{take_all, take-suc, take_at, drop-cons, drop-drop, drop-append-add, set_at, set_split, length-take-le}
 use borrow.Rule.Slice.PartMut.{put_mid}
 use Rattle.lists.specs.Lists.{over, written_at}
@@ -45,6 +45,15 @@ module _ {A : Type 0} where
   -- one more
   pub take-one-more : (l : List A) (i : ℕ) (d : A) → i < length l → take (i + 1) l ≡ take i l ++ (get_or l i d ∷ [])
   take-one-more l i d h = ap (λ k. take k l) (add-one i) ∙ take-suc l i d h
+
+  -- one entry more copied from the front of a list to that of another
+  pub copy-on : (s d : List A) (i : ℕ) (z : A) → i < length s → i < length d → set (take i s ++ drop i d) i (get_or s i z) ≡ take (i + 1) s ++ drop (i + 1) d
+  copy-on s d i z l m =
+      ap (λ r. set (take i s ++ r) i (get_or s i z)) (drop-cons d i z m)
+      ∙ set_at (take i s) (get_or d i z) (drop (suc i) d) (get_or s i z) i (length-take-le i s (omega arith))
+      ∙ sym (append_assoc (take i s) (get_or s i z ∷ []) (drop (suc i) d))
+      ∙ ap (λ r. r ++ drop (suc i) d) (sym (take-suc s i z l))
+      ∙ ap (λ n. take n s ++ drop n d) (sym (add-one i))
 
   -- ---- written over
 
@@ -103,6 +112,13 @@ module _ {A : Type 0} where
       ap₂ (λ (x y : List A). x ++ (more ++ y)) t d
       ∙ append_assoc (take n l) new (more ++ last)
       ∙ ap (λ x. take n l ++ x) (sym (append_assoc new more last))
+
+  -- two stores, one after the other
+  pub written-two : (l : List A) (n : ℕ) (x y : A) → n + 2 ≤ length l → set (set l n x) (n + 1) y ≡ written_at l n (x ∷ y ∷ [])
+  written-two l n x y h =
+      written_one (set l n x) (n + 1) y (omega (arith, length-set l n x))
+      ∙ ap (λ v. written_at v (n + 1) (y ∷ [])) (written_one l n x (omega arith))
+      ∙ written-more l n (x ∷ []) (y ∷ []) (omega arith)
 
 -- what a callee wrote over the front of the part from a on, said of the whole
 pub put-over : (b xs ys : List ℕ) (a : ℕ) → a ≤ length xs → ys ≡ over b (take (length xs - a) (drop a xs)) → put_mid a (length xs - a) xs ys ≡ take a xs ++ b ++ drop (a + length b) xs

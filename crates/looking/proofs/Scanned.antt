@@ -6,7 +6,7 @@ use mathlib.Core.Path.{◌≡◌, refl, sym, ap, ap₂, ◌∙◌, subst}
 use mathlib.Core.Logic.{◌≢◌}
 use mathlib.Core.List.{List, [], ◌∷◌, ◌++◌, map}
 use lib.ListN.{length, get_or, set, take, drop, length-append, length-drop, length-map}
-use lib.Seq.{drop-drop, take_all, take-append_seam, drop-append_seam}
+use lib.Seq.{length-take-le, drop-drop, take_all, take-append_seam, drop-append_seam}
 use Rattle.record.specs.declared.Event.{Event}
 use Rattle.record.specs.Faults.{Refusal, first_fault}
 use Rattle.record.specs.Record.{event, records, records_of}
@@ -52,6 +52,9 @@ rest-next input i h =
 rest-none : (input : List ℕ) (i : ℕ) → length input / 8 ≤ i → rest_from input i ≡ []
 unfolding rest_from records
 rest-none input i h = let z : length input / 8 - i ≡ 0 = omega arith in ap (λ k. records k (drop (8 * i) input)) z
+
+pub bytes-size : (input : List ℕ) (i : ℕ) → i < length input / 8 → length (record_in input i) ≡ 8
+bytes-size input i h = length-take-le 8 (drop (8 * i) input) (omega (arith, length-drop (8 * i) input))
 
 -- what is left of a recording, cut after its first 8 bytes
 pub record Cut (input bytes after : List ℕ) (i : ℕ) : Type 0 where

@@ -19,6 +19,9 @@ after : {i : ℕ} (k : ℕ) → (k ≡ i → ⊥) → i ≤ k → suc i ≤ k
 after k d le = omega arith
 
 module _ (xs : List Labelled) (work : List ℕ) (t : ℕ) where
+  pub ranked-none : (candidates lowest : List ℕ) → Ranked xs work t (length xs) candidates lowest
+  ranked-none candidates lowest = ((λ k le lt. absurd (omega arith)), (λ k j le more lt. absurd (omega arith)))
+
   pub ranked-more : (i : ℕ) (candidates lowest : List ℕ) (b low : ℕ) → i < length candidates → i < length lowest → Ranked xs work t (suc i) candidates lowest
       → b ≡ candidate work t (transaction_at xs i) → ((j : ℕ) → i ≤ j → j < length xs → low ≤ candidate work t (transaction_at xs j))
       → Ranked xs work t i (set candidates i b) (set lowest i low)

@@ -1,6 +1,7 @@
 pub mod Reasons
 pub mod Pairs
 pub mod Causes
+pub mod Alike
 pub mod Hits
 pub mod Tellings
 pub mod Right

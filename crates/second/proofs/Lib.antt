@@ -10,3 +10,4 @@ pub mod ByKind
 pub mod Seeking
 pub mod Right
 pub mod Examples
+pub mod Shown

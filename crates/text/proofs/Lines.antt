@@ -2,7 +2,7 @@
 use Prim.Native.Nat.{ℕ, zero, suc, ◌-◌, ◌≤◌, ◌<◌}
 use native.Mathlib.Omega.{arith}
 use mathlib.Core.Path.{◌≡◌, refl, sym, ap, ap₂, subst, ◌∙◌}
-use mathlib.Core.Bool.{Bool, true, false, cond, ◌&&◌}
+use mathlib.Core.Bool.{Bool, true, false, cond, ◌&&◌, and-true as and-with-true}
 use mathlib.Core.List.{List, [], ◌∷◌, ◌++◌, map}
 use lib.ListN.{length, get_or, take, length-append}
 use lib.Seq.{take_at, get_or_at, take-suc, take-length}
@@ -18,8 +18,8 @@ use Rattle.record.proofs.Laws.{Shape, shape, Parts, parts}
 use Rattle.decimal.specs.Decimal.{decimal, value_from, value_of, is_number}
 use Rattle.text.specs.Line.{space, line_feed, name, field_count, fields, words_of, spaced, line_of, words, kind_named, limits, fit, formless, read_fields, read_operation, read_words, last_byte, but_last, line_read}
 use Rattle.text.specs.Meaning.{OneLine}
-use Rattle.decimal.proofs.Decimals.{value-decimal, number-decimal, number-within, decimal-value}
-use Rattle.text.proofs.Words.{lacks, AllLack, decimal-lacks, decimals-lack, spaced-lacks, name-lacks, kind-name, name-named, named-low, words-spaced, spaced-words}
+use Rattle.decimal.proofs.Decimals.{value-decimal, number-decimal, number_digits, number-within, decimal-value}
+use Rattle.text.proofs.Words.{lacks, AllLack, digits-lack, decimal-lacks, decimals-lack, spaced-lacks, name-lacks, kind-name, name-named, named-low, words-some, words-alone, words-spaced, spaced-words}
 
 -- ---- The numbers after the name
 
@@ -124,6 +124,22 @@ fitted k ws h = by_count k
 
 few-fields : (k : ℕ) → 2 < k → field_count k < 2
 few-fields k l = by_count k (λ e h. absurd (omega arith)) (λ e h g. omega arith) (λ e h. omega arith)
+
+-- one limit: the bytes are one word, and it is a number
+pub fit-one : (m : ℕ) (w : List ℕ) → fit (m ∷ []) (words w) ≡ is_number m w
+unfolding fit spaced
+fit-one m w = by (is_number m w)
+    (λ e. ap (fit (m ∷ [])) (words-alone w (digits-lack space w (omega arith) (number_digits m w e))) ∙ and-with-true (is_number m w))
+    (λ e. none e (words w) refl)
+  where
+    more : (b : Bool) (v : List ℕ) (ws : List (List ℕ)) → (b && fit [] (v ∷ ws)) ≡ false
+    more true v ws = refl
+    more false v ws = refl
+
+    none : is_number m w ≡ false → (ws : List (List ℕ)) → words w ≡ ws → fit (m ∷ []) ws ≡ is_number m w
+    none e [] h = absurd (omega (arith, words-some w, ap length h))
+    none e (v ∷ []) h = ap (λ x. fit (m ∷ []) (x ∷ [])) (ap spaced (sym h) ∙ spaced-words w) ∙ and-with-true (is_number m w)
+    none e (v ∷ u ∷ ws) h = more (is_number m v) u ws ∙ sym e
 
 -- ---- Reading, step by step
 

@@ -9,9 +9,9 @@ use lib.ListN.{length, get_or, drop, drop_of_length-le}
 use lib.Seq.{drop-cons}
 use lib.Dec.{leb, eqb}
 use lib.Pointwise.{pointwise}
-use borrow.Author.Tests.{le-leb, lt-leb, eq-eqb, eqb-true}
+use borrow.Author.Tests.{le-leb, lt-leb, leb-true, eq-eqb, eqb-true}
 use Rattle.lists.specs.Lists.{all_of}
-use Rattle.lists.proofs.Tests.{by}
+use Rattle.lists.proofs.Tests.{by, and-true}
 use Rattle.lists.proofs.Lists.{all_cons}
 use Rattle.decimal.specs.Decimal.{is_digit, value_from, value_of, zero_led, is_number}
 use Rattle.std.specs.Prelude.{Some, None}
@@ -88,6 +88,15 @@ number-run limit w h z = number-tests limit w true false (le-leb 1 (length w) h)
     unled : (b : Bool) → eqb (get_or w 0 0) 48 ≡ b → zero_led w ≡ false
     unled true e = ap₂ (λ a b. a && b) e (lt-leb 2 (length w) (z (eqb-true (get_or w 0 0) 48 e)))
     unled false e = ap (λ a. a && leb 2 (length w)) e
+
+-- what a run gives is within the limit
+pub run-low : (limit v : ℕ) (w : List ℕ) (n : ℕ) → Some n ≡ run_in limit v w → n ≤ limit
+unfolding run_in
+run-low limit v w n h = by (all_of is_digit w && leb (value_from v w) limit)
+    (λ e. let s : Some n ≡ Some (value_from v w) = h ∙ (rw (e, run_in) refl) in
+    let same : n ≡ value_from v w = cc s in
+    omega (arith, same, leb-true (value_from v w) limit (and-true (all_of is_digit w) (leb (value_from v w) limit) e).1))
+    (λ e. let s : Some n ≡ None = h ∙ (rw (e, run_in) refl) in let no : ◌≡◌ {A = ℕ} 0 1 = cc s in absurd (omega arith))
 
 -- a number that is given is within the limit
 pub record Number (limit : ℕ) (w : List ℕ) (n : ℕ) : Type 0 where

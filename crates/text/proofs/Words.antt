@@ -127,6 +127,9 @@ same-is (c ∷ w) (d ∷ v) h =
     let p = and-true (eqb c d) (same_word w v) h in
     ap₂ (λ x y. x ∷ y) (eqb-true c d p.0) (same-is w v p.1)
 
+pub same-sized : (w v : List ℕ) → (length w ≡ length v → ⊥) → same_word w v ≡ false
+same-sized w v h = by (same_word w v) (λ e. absurd (h (ap length (same-is w v e)))) (λ e. e)
+
 pub place_here : (k : ℕ) (w n : List ℕ) (ns : List (List ℕ)) → same_word w n ≡ true → place_from k w (n ∷ ns) ≡ k
 unfolding place_from
 place_here k w n ns e = rw (e, place_from)
