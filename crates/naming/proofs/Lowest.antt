@@ -54,7 +54,7 @@ module _ (work : List ℕ) (t : ℕ) where
     abbrev counts : Bool
     counts = ltb b transaction_limit && (not (eqb b t) && has work t b)
 
-    candidate-some : ltb b transaction_limit ≡ true → not (eqb b t) ≡ true → has work t b ≡ true → candidate work t b ≡ b
+    pub candidate-some : ltb b transaction_limit ≡ true → not (eqb b t) ≡ true → has work t b ≡ true → candidate work t b ≡ b
     candidate-some e d h =
         ap (λ p. cond (p && (not (eqb b t) && has work t b)) b transaction_limit) e
         ∙ ap₂ (λ p q. cond (p && q) b transaction_limit) d h
@@ -62,13 +62,13 @@ module _ (work : List ℕ) (t : ℕ) where
     candidate-never : counts ≡ false → candidate work t b ≡ transaction_limit
     candidate-never e = ap (λ p. cond p b transaction_limit) e
 
-    candidate-beyond : ltb b transaction_limit ≡ false → candidate work t b ≡ transaction_limit
+    pub candidate-beyond : ltb b transaction_limit ≡ false → candidate work t b ≡ transaction_limit
     candidate-beyond e = candidate-never (ap (λ p. p && (not (eqb b t) && has work t b)) e)
 
-    candidate-own : not (eqb b t) ≡ false → candidate work t b ≡ transaction_limit
+    pub candidate-own : not (eqb b t) ≡ false → candidate work t b ≡ transaction_limit
     candidate-own e = candidate-never (ap (λ p. ltb b transaction_limit && (p && has work t b)) e ∙ and-false (ltb b transaction_limit))
 
-    candidate-away : has work t b ≡ false → candidate work t b ≡ transaction_limit
+    pub candidate-away : has work t b ≡ false → candidate work t b ≡ transaction_limit
     candidate-away h = candidate-never (ap (λ p. ltb b transaction_limit && (not (eqb b t) && p)) h ∙ ap (λ p. ltb b transaction_limit && p) (and-false (not (eqb b t))) ∙ and-false (ltb b transaction_limit))
 
   -- the lowest rank by that, where `low` is no higher than one that is never the lowest
