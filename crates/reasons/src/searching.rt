@@ -1,6 +1,5 @@
 // The earliest two records that make an edge: the search ends at the first hit. Of a record it goes by the transaction first.
-ghost use Rattle.std.specs.Prelude.{◌≡◌, ◌&&◌, ◌<◌, ◌≤◌, eqb, length, position};
-ghost use Rattle.graph.specs.Conflict.{conflict};
+ghost use Rattle.std.specs.Prelude.{◌≡◌, ◌<◌, ◌≤◌, length};
 ghost use Rattle.reasons.specs.Why.{earliest_first, earliest_second, cause_of, origin_of, goal_of};
 
 use crate::{Cause, reasoning};
@@ -13,30 +12,28 @@ pub struct Pair {
     pub second: usize,
 }
 
-// The earliest of the records after x that is of transaction b and conflicts with it.
-fn second_of(x: Labelled, later: &[Labelled], b: u16) -> Option<usize>
-    ensures { result ≡ position (λ y. eqb y.transaction b && conflict x.event y.event) later.now }
-{
-    later.iter().position(|y| y.transaction == b && graph::conflicts(x.event, y.event))
-}
-
 // The earliest first record that makes an edge from transaction `a` to `b` with a later one, and for it the earliest second.
 pub fn search(records: &[Labelled], a: u16, b: u16) -> Pair
     ensures { (result.first ≡ earliest_first records.now a b) × (result.second ≡ earliest_second records.now a b (earliest_first records.now a b)) }
 {
-    for (first, x) in records.iter().enumerate() {
-        if x.transaction == a {
-            if let Some(k) = second_of(*x, &records[first + 1..], b) {
-                return Pair {
-                    first,
-                    second: first + 1 + k,
-                };
+    'search: {
+        for (first, x) in records.iter().enumerate() {
+            if x.transaction == a {
+                let later = &records[first + 1..];
+                for (k, y) in later.iter().enumerate() {
+                    if y.transaction == b && graph::conflicts(x.event, y.event) {
+                        break 'search Pair {
+                            first,
+                            second: first + 1 + k,
+                        };
+                    }
+                }
             }
         }
-    }
-    Pair {
-        first: 0,
-        second: 0,
+        Pair {
+            first: 0,
+            second: 0,
+        }
     }
 }
 
