@@ -10,11 +10,12 @@ use short::Short;
 pub fn digits_of(n: u16) -> Short<5>
     ensures { result ≡ decimal n }
 {
-    let mut digits = if n < 10 {
-        Short::new()
-    } else {
-        digits_of(n / 10)
-    };
+    if n < 10 {
+        let mut digit = Short::new();
+        digit.push(b'0' + n as u8);
+        return digit;
+    }
+    let mut digits = digits_of(n / 10);
     digits.push(b'0' + (n % 10) as u8);
     digits
 }
