@@ -8,13 +8,15 @@ use mathlib.Core.Logic.{◌⊎◌, inl, inr}
 use mathlib.Core.List.{List, [], ◌∷◌, ◌++◌, map}
 use denote.Enum.Bare.{sameb}
 use borrow.Rule.Slice.PartMut.{mid_of}
-use lib.Dec.{eqb}
+use lib.Dec.{eqb, leb}
+use borrow.Author.Tests.{le-leb, lt-leb}
 use Rattle.std.proofs.Common.{get_or-drop}
 use lib.ListN.{length, get_or, set, take, drop, length-drop}
 use lib.Seq.{set_comm, take-suc}
 use Rattle.record.specs.declared.Event.{Event}
 use Rattle.record.specs.declared.Op.{Op}
-use Rattle.record.specs.declared.Op.TheVariants.{Acquire, Release, Prewait, Postwait, Notify}
+use Rattle.record.specs.declared.Op.TheVariants.{Read, Write, Acquire, Release, Prewait, Postwait, Notify, Fork, Join, Yield}
+use Rattle.record.specs.Record.{kind, target}
 use Rattle.std.specs.List.{list_any}
 use Rattle.lists.specs.Lists.{some_of, from, below}
 use Rattle.lists.proofs.Tests.{by-same}
@@ -34,26 +36,57 @@ use Rattle.second.specs.Cells.{cells_of, Key, cell, put, put_all, asked, asks, l
 use Rattle.second.specs.Edges.{sources_of, stored_of}
 use Rattle.second.specs.Taken.{closing, taken_as, taken, readers_in}
 
--- ---- the operations at a lock
+-- ---- what a kind number says
 
--- it is one of the five at lock m
-abbrev pub AtLock : Op → ℕ → Type 0
-AtLock o m = (o ≡ Acquire m) ⊎ ((o ≡ Release m) ⊎ ((o ≡ Prewait m) ⊎ ((o ≡ Postwait m) ⊎ (o ≡ Notify m))))
+-- the cells that an operation of a kind at a target asks, and those that it leaves, in thread t
+abbrev pub keys : ℕ → ℕ → ℕ → List Key × List Key
+keys k x t =
+    cond (leb k 1) (Key.writer x ∷ [], Key.reader x t ∷ [])
+    (cond (leb k 2) (Key.writer x ∷ readers_of x, Key.writer x ∷ []) (cond (leb k 7) (Key.lock x ∷ [], Key.lock x ∷ []) (cond (leb k 8) ([], Key.thread x ∷ []) (cond (leb k 9) (Key.thread x ∷ [], []) ([], [])))))
 
-at-lock : (P : Op → Type 0) (o : Op) (m : ℕ) → P (Acquire m) → P (Release m) → P (Prewait m) → P (Postwait m) → P (Notify m) → AtLock o m → P o
-at-lock P o m a b c d e (inl h) = subst P (sym h) a
-at-lock P o m a b c d e (inr (inl h)) = subst P (sym h) b
-at-lock P o m a b c d e (inr (inr (inl h))) = subst P (sym h) c
-at-lock P o m a b c d e (inr (inr (inr (inl h)))) = subst P (sym h) d
-at-lock P o m a b c d e (inr (inr (inr (inr h)))) = subst P (sym h) e
+pub keys-are : (t : ℕ) (o : Op) → ◌≡◌ {A = List Key × List Key} (asked o, left t o) (keys (kind o) (target o) t)
+unfolding asked left
+keys-are t (Read x v) = refl
+keys-are t (Write x v) = refl
+keys-are t (Acquire m) = refl
+keys-are t (Release m) = refl
+keys-are t (Prewait m) = refl
+keys-are t (Postwait m) = refl
+keys-are t (Notify m) = refl
+keys-are t (Fork u) = refl
+keys-are t (Join u) = refl
+keys-are t Yield = refl
 
-pub asked-lock : (o : Op) (m : ℕ) → AtLock o m → asked o ≡ Key.lock m ∷ []
-unfolding asked
-asked-lock o m = at-lock (λ p. asked p ≡ Key.lock m ∷ []) o m refl refl refl refl refl
+-- an operation, as code sees it: its kind's number and its target
+module _ (t : ℕ) (o : Op) (k x : ℕ) (k-is : k ≡ kind o) (x-is : x ≡ target o) where
+  of-kind : (p : List Key × List Key) → keys k x t ≡ p → (asked o ≡ p.0) × (left t o ≡ p.1)
+  of-kind p h =
+      let same = keys-are t o ∙ ap₂ (λ m y. keys m y t) (sym k-is) (sym x-is) ∙ h in
+      (ap (λ (q : List Key × List Key). q.0) same, ap (λ (q : List Key × List Key). q.1) same)
 
-pub left-lock : (t : ℕ) (o : Op) (m : ℕ) → AtLock o m → left t o ≡ Key.lock m ∷ []
-unfolding left
-left-lock t o m = at-lock (λ p. left t p ≡ Key.lock m ∷ []) o m refl refl refl refl refl
+  pub at-read : k ≤ 1 → (asked o ≡ Key.writer x ∷ []) × (left t o ≡ Key.reader x t ∷ [])
+  at-read h = of-kind (Key.writer x ∷ [], Key.reader x t ∷ []) (rw (le-leb k 1 h) refl)
+
+  pub at-write : k ≡ 2 → (asked o ≡ Key.writer x ∷ readers_of x) × (left t o ≡ Key.writer x ∷ [])
+  at-write h = of-kind (Key.writer x ∷ readers_of x, Key.writer x ∷ []) (ap (λ m. keys m x t) h)
+
+  pub at-lock : 3 ≤ k → k ≤ 7 → (asked o ≡ Key.lock x ∷ []) × (left t o ≡ Key.lock x ∷ [])
+  at-lock g h = of-kind (Key.lock x ∷ [], Key.lock x ∷ []) (rw (lt-leb k 1 (omega arith), lt-leb k 2 (omega arith), le-leb k 7 h) refl)
+
+  pub at-fork : k ≡ 8 → (asked o ≡ []) × (left t o ≡ Key.thread x ∷ [])
+  at-fork h = of-kind ([], Key.thread x ∷ []) (ap (λ m. keys m x t) h)
+
+  pub at-join : k ≡ 9 → (asked o ≡ Key.thread x ∷ []) × (left t o ≡ [])
+  at-join h = of-kind (Key.thread x ∷ [], []) (ap (λ m. keys m x t) h)
+
+  pub at-yield : 10 ≤ k → (asked o ≡ []) × (left t o ≡ [])
+  at-yield h =
+      of-kind ([], []) (rw (lt-leb k 1 (omega arith), lt-leb k 2 (omega arith), lt-leb k 7 (omega arith), lt-leb k 8 (omega arith), lt-leb k 9 (omega arith)) refl)
+
+  -- where nothing is asked
+  pub asks-none : k ≡ 8 ⊎ 10 ≤ k → asked o ≡ []
+  asks-none (inl h) = (at-fork h).0
+  asks-none (inr h) = (at-yield h).0
 
 -- ---- what an operation leaves
 

@@ -34,23 +34,16 @@ impl Cells {
     pub(crate) fn target_leads(&self, work: &[u64], a: u16, op: Op) -> bool
         ensures { result ≡ some_of (leads work.now a) (map (cell self.now) (asked op)) }
     {
-        match op {
-            Op::Read { var, .. } => ancestors::leads(work, a, self.writers[var as usize]),
-            Op::Write { var, .. } => {
-                ancestors::leads(work, a, self.writers[var as usize])
-                    || self.reader_leads(work, a, var)
+        let at = op.target();
+        match op.kind() {
+            0..=1 => ancestors::leads(work, a, self.writers[at as usize]),
+            2 => {
+                ancestors::leads(work, a, self.writers[at as usize])
+                    || self.reader_leads(work, a, at)
             }
-            Op::Acquire { lock }
-            | Op::Release { lock }
-            | Op::Prewait { lock }
-            | Op::Postwait { lock }
-            | Op::Notify { lock } => {
-                ancestors::leads(work, a, entries::entry(&self.locks, lock as usize))
-            }
-            Op::Join { child } => {
-                ancestors::leads(work, a, entries::entry(&self.threads, child as usize))
-            }
-            Op::Fork { .. } | Op::Yield => false,
+            3..=7 => ancestors::leads(work, a, entries::entry(&self.locks, at as usize)),
+            9 => ancestors::leads(work, a, entries::entry(&self.threads, at as usize)),
+            _ => false,
         }
     }
 
@@ -94,27 +87,24 @@ impl Cells {
         ensures { Joins work.old a (others a (map (cell self.old) (asked op))) (code result) work.new
             × (self.new ≡ put_all self.old (left t op) (a + 1)) }
     {
-        match op {
-            Op::Read { var, .. } => {
-                let at = var as usize;
+        let at = op.target();
+        match op.kind() {
+            0..=1 => {
+                let at = at as usize;
                 entries::set_entry(&mut self.readers, at * 16 + t as usize, a + 1);
                 ancestors::join_one(work, a, self.writers[at])
             }
-            Op::Write { var, .. } => self.take_write(work, a, var),
-            Op::Acquire { lock }
-            | Op::Release { lock }
-            | Op::Prewait { lock }
-            | Op::Postwait { lock }
-            | Op::Notify { lock } => self.take_lock(work, a, lock),
-            Op::Fork { child } => {
-                entries::set_entry(&mut self.threads, child as usize, a + 1);
+            2 => self.take_write(work, a, at),
+            3..=7 => self.take_lock(work, a, at),
+            8 => {
+                entries::set_entry(&mut self.threads, at as usize, a + 1);
                 Joined::Nothing
             }
-            Op::Join { child } => {
-                let last = entries::entry(&self.threads, child as usize);
+            9 => {
+                let last = entries::entry(&self.threads, at as usize);
                 ancestors::join_one(work, a, last)
             }
-            Op::Yield => Joined::Nothing,
+            _ => Joined::Nothing,
         }
     }
 }
