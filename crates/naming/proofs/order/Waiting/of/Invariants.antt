@@ -1,9 +1,0 @@
--- `naming::order::Waiting::of` meets its contract.
-use mathlib.Core.Path.{◌≡◌}
-use lib.ListN.{length, get_or, replicate}
-use Rattle.naming.specs.Naming.{Counts}
-use Rattle.naming.proofs.order.Waiting.of.Given as goal
-
-abbrev pub invariant-loop-t : goal.invariant-loop-t
-invariant-loop-t l =
-    (length l.nexts ≡ 256) × (length l.lefts ≡ 256) × Counts l.all.work.now (λ a. get_or l.all.threads a 0) l.all.n l.t (replicate 8 0) l.nexts l.lefts
