@@ -3,6 +3,7 @@
 ghost use Rattle.std.specs.Prelude.{◌≡◌, ◌+◌, ◌<◌, [], ◌∷◌, map, get_or};
 ghost use Rattle.std.specs.List.{list_any};
 ghost use Rattle.lists.specs.Lists.{some_of};
+ghost use Rattle.record.specs.Record.{kind};
 ghost use Rattle.ancestors.specs.Others.{others};
 ghost use Rattle.ancestors.specs.Sources.{leads, Joins, code};
 ghost use Rattle.second.specs.Cells.{Key, cell, put, put_all, asked, left};
@@ -11,6 +12,15 @@ ghost use Rattle.second.specs.Taken.{readers_in};
 use crate::{Cells, entries};
 use ancestors::Joined;
 use record::Op;
+
+// The number of an operation's kind. By a call: taken apart where it is asked, the compiler makes of the ranges below a jump through a table of ten,
+// which a processor seldom foresees.
+#[inline(never)]
+fn kind_of(op: Op) -> u8
+    ensures { result ≡ kind op }
+{
+    op.kind()
+}
 
 impl Cells {
     // The last readers of variable x, by thread.
@@ -35,7 +45,7 @@ impl Cells {
         ensures { result ≡ some_of (leads work.now a) (map (cell self.now) (asked op)) }
     {
         let at = op.target();
-        match op.kind() {
+        match kind_of(op) {
             0..=1 => ancestors::leads(work, a, self.writers[at as usize]),
             2 => {
                 ancestors::leads(work, a, self.writers[at as usize])
@@ -88,7 +98,7 @@ impl Cells {
             × (self.new ≡ put_all self.old (left t op) (a + 1)) }
     {
         let at = op.target();
-        match op.kind() {
+        match kind_of(op) {
             0..=1 => {
                 let at = at as usize;
                 entries::set_entry(&mut self.readers, at * 16 + t as usize, a + 1);
